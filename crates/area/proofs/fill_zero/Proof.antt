@@ -1,0 +1,24 @@
+-- `area::fill_zero` meets its contract.
+-- Assumes nothing.
+use borrow.Author.Needs.{needs}
+use mathlib.Core.Path.{_∙_}
+use Rattle.area.proofs.Zero.{zero-fill}
+use Rattle.area.proofs.fill_zero.Statement.{statement}
+use Rattle.area.proofs.fill_zero.Tie as tie
+
+sub-count : tie.Need-sub-count
+sub-count c = search needs
+
+put-zeros-requires : tie.Need-put-zeros-requires
+put-zeros-requires c κs = search needs
+
+same-length : tie.Need-same-length
+same-length c = search needs
+
+returns : tie.Need-returns
+returns c =
+    let a = c .before .before .before .before .before .args in
+    c .before .before .put-zeros .ensures ∙ zero-fill (a .n) (a .s .now) (search needs)
+
+pub fill-zero-spec : {M : Type 1} → statement M
+fill-zero-spec = tie.close (tie.spec sub-count put-zeros-requires same-length returns)

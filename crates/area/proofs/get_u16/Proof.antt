@@ -1,0 +1,46 @@
+-- `area::get_u16` meets its contract.
+-- Assumes nothing.
+use borrow.Author.Needs.{needs}
+use native.Mathlib.Numerals.{towards-suc}
+use native.Mathlib.Nat.{add-zero}
+use Rattle.area.specs.Bytes.{num}
+use Rattle.area.proofs.get_u16.Statement.{statement}
+use Rattle.area.proofs.get_u16.Tie as tie
+
+shared-slice-read-wide16 : tie.Need-shared-slice-read-wide16
+shared-slice-read-wide16 c = search needs
+
+wide16-requires : tie.Need-wide16-requires
+wide16-requires c κs = search needs
+
+add-wide16 : tie.Need-add-wide16
+add-wide16 c = search needs
+
+shared-slice-read-wide16-2 : tie.Need-shared-slice-read-wide16-2
+shared-slice-read-wide16-2 c = search needs
+
+wide16-requires-2 : tie.Need-wide16-requires-2
+wide16-requires-2 c κs = search needs
+
+mul-result : tie.Need-mul-result
+mul-result c = search needs
+
+add-result : tie.Need-add-result
+add-result c = search needs
+
+returns : tie.Need-returns
+unfolding num
+returns c = simp (c .before .before .wide16 .ensures .0, c .wide162 .ensures .0, towards-suc, add-zero)
+
+pub get-u16-spec : {M : Type 1} → statement M
+get-u16-spec =
+    tie.close
+    (tie.spec
+    shared-slice-read-wide16
+    wide16-requires
+    add-wide16
+    shared-slice-read-wide16-2
+    wide16-requires-2
+    mul-result
+    add-result
+    returns)

@@ -1,0 +1,153 @@
+// Bytes in place: numbers with the low byte first, copies, moves, scans and fills.
+ghost use mathlib.Core.Path.{_≡_};
+ghost use mathlib.Core.List.{[], _∷_};
+ghost use Prim.Native.Nat.{_+_, _-_, _≤_, _<_};
+ghost use lib.ListN.{length, take, drop, replicate};
+ghost use Rattle.area.specs.Bytes.{le, num};
+ghost use Rattle.area.specs.Splice.{splice, padded};
+ghost use Rattle.area.specs.Zero.{allZero, orRest, zeroFrom};
+
+// A byte as a wider number.
+fn wide16(x: u8) -> u16
+    ensures { λ r. ⌜ (r ≡ x) × (r < 256) ⌝ }
+{
+    x as u16
+}
+
+pub fn get_u16(s: &[u8], at: usize) -> u16
+    requires { ⌜ at + 2 ≤ length (now s) ⌝ }
+    ensures { λ r. ⌜ r ≡ num 2 at (now (s .entry)) ⌝ }
+{
+    wide16(s[at]) + 256 * wide16(s[at + 1])
+}
+
+// The wider numbers are read and written by halves, so that one law over the width serves them.
+pub fn get_u32(s: &[u8], at: usize) -> u32
+    requires { ⌜ at + 4 ≤ length (now s) ⌝ }
+    ensures { λ r. ⌜ r ≡ num 4 at (now (s .entry)) ⌝ }
+{
+    get_u16(s, at) as u32 + 65536 * (get_u16(s, at + 2) as u32)
+}
+
+pub fn get_u64(s: &[u8], at: usize) -> u64
+    requires { ⌜ at + 8 ≤ length (now s) ⌝ }
+    ensures { λ r. ⌜ r ≡ num 8 at (now (s .entry)) ⌝ }
+{
+    get_u32(s, at) as u64 + 4294967296 * (get_u32(s, at + 4) as u64)
+}
+
+pub fn put_u8(s: &mut [u8], at: usize, v: u8)
+    requires { ⌜ at + 1 ≤ length (now s) ⌝ }
+    ensures { λ _. ⌜ now (s .exit) ≡ splice at (v ∷ []) (now (s .entry)) ⌝ }
+{
+    s[at] = v;
+}
+
+pub fn put_u16(s: &mut [u8], at: usize, v: u16)
+    requires { ⌜ at + 2 ≤ length (now s) ⌝ }
+    ensures { λ _. ⌜ now (s .exit) ≡ splice at (le 2 v) (now (s .entry)) ⌝ }
+{
+    s[at] = (v % 256) as u8;
+    s[at + 1] = (v / 256 % 256) as u8;
+}
+
+pub fn put_u32(s: &mut [u8], at: usize, v: u32)
+    requires { ⌜ at + 4 ≤ length (now s) ⌝ }
+    ensures { λ _. ⌜ now (s .exit) ≡ splice at (le 4 v) (now (s .entry)) ⌝ }
+{
+    put_u16(s, at, (v % 65536) as u16);
+    put_u16(s, at + 2, (v / 65536) as u16);
+}
+
+pub fn put_u64(s: &mut [u8], at: usize, v: u64)
+    requires { ⌜ at + 8 ≤ length (now s) ⌝ }
+    ensures { λ _. ⌜ now (s .exit) ≡ splice at (le 8 v) (now (s .entry)) ⌝ }
+{
+    put_u32(s, at, (v % 4294967296) as u32);
+    put_u32(s, at + 4, (v / 4294967296) as u32);
+}
+
+// `count` bytes of src from `from`, to dst at `to`.
+pub fn copy_part(src: &[u8], from: usize, dst: &mut [u8], to: usize, count: usize)
+    requires { ⌜ (from + count ≤ length (now src)) × (to + count ≤ length (now dst)) ⌝ }
+    ensures { λ _. ⌜ now (dst .exit) ≡ splice to (take count (drop from (now (src .entry)))) (now (dst .entry)) ⌝ }
+{
+    let mut i = 0;
+    while i < count {
+        dst[to + i] = src[from + i];
+        i += 1;
+    }
+}
+
+// `count` bytes of s from `to + gap`, down to `to`; the two parts may overlap.
+pub fn move_down(s: &mut [u8], to: usize, gap: usize, count: usize)
+    requires { ⌜ to + gap + count ≤ length (now s) ⌝ }
+    ensures { λ _. ⌜ now (s .exit) ≡ splice to (take count (drop (to + gap) (now (s .entry)))) (now (s .entry)) ⌝ }
+{
+    let mut i = 0;
+    while i < count {
+        s[to + i] = s[to + gap + i];
+        i += 1;
+    }
+}
+
+fn put_zeros(s: &mut [u8], at: usize, count: usize)
+    requires { ⌜ at + count ≤ length (now s) ⌝ }
+    ensures { λ _. ⌜ now (s .exit) ≡ splice at (replicate count 0) (now (s .entry)) ⌝ }
+{
+    let mut i = 0;
+    while i < count {
+        s[at + i] = 0;
+        i += 1;
+    }
+}
+
+// t at `at`, with zeros behind it up to the width.
+pub fn put_padded(s: &mut [u8], at: usize, width: usize, t: &[u8])
+    requires { ⌜ (at + width ≤ length (now s)) × (length (now t) ≤ width) ⌝ }
+    ensures { λ _. ⌜ now (s .exit) ≡ splice at (padded width (now (t .entry))) (now (s .entry)) ⌝ }
+{
+    let n = t.len();
+    copy_part(t, 0, s, at, n);
+    put_zeros(s, at + n, width - n);
+}
+
+// Zeros from n to the end.
+pub fn fill_zero(s: &mut [u8], n: usize)
+    requires { ⌜ n ≤ length (now s) ⌝ }
+    ensures { λ _. ⌜ now (s .exit) ≡ zeroFrom n (now (s .entry)) ⌝ }
+{
+    let count = s.len() - n;
+    put_zeros(s, n, count);
+}
+
+// The OR of all bytes. With no way out of the loop it is compiled to wide instructions.
+pub fn or_all(t: &[u8]) -> u8
+    ensures { λ r. ⌜ r ≡ orRest 0 (now (t .entry)) ⌝ }
+{
+    let mut acc: u8 = 0;
+    let mut i = 0;
+    while i < t.len() {
+        acc = acc | t[i];
+        i += 1;
+    }
+    acc
+}
+
+// Whether the bytes from n to the end are all 0.
+pub fn zero_from(s: &[u8], n: usize) -> bool
+    ensures { λ r. ⌜ r ≡ allZero (drop n (now (s .entry))) ⌝ }
+{
+    if s.len() < n {
+        return true;
+    }
+    or_all(&s[n..]) == 0
+}
+
+// Whether the bytes from `from` and before `to` are all 0.
+pub fn zero_part(s: &[u8], from: usize, to: usize) -> bool
+    requires { ⌜ (from ≤ to) × (to ≤ length (now s)) ⌝ }
+    ensures { λ r. ⌜ r ≡ allZero (take (to - from) (drop from (now (s .entry)))) ⌝ }
+{
+    or_all(&s[from..to]) == 0
+}
