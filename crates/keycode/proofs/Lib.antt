@@ -1,0 +1,3 @@
+pub mod EachCode
+pub mod Codes
+pub mod CodeKeys

@@ -1,0 +1,4 @@
+pub mod Arms
+mod Signed
+pub mod Numbers
+pub mod Full

@@ -1,0 +1,302 @@
+#!/usr/bin/env python3
+"""Writes what is as long as tao's lists of keys: the enum KeyCode, its numbers, the scan codes' match, and their proofs.
+
+Usage, in the repository's folder: TAO_SRC=FOLDER tools/gen_keys.py && rt fmt
+FOLDER holds tao's keyboard.rs and platform_impl/windows/keycode.rs. What a file holds between two marks is replaced; a file without marks is written whole."""
+import os
+import re
+import sys
+
+TAO = os.environ.get('TAO_SRC', '')
+ENTRY = re.compile(r',(?![^(]*\))')
+
+
+def read(name):
+    with open(os.path.join(TAO, name), encoding='utf-8') as f:
+        return f.read()
+
+
+def cases(source, head):
+    """The cases of a Rust enum, in order, without comments and attributes."""
+    body = re.search(r'pub enum ' + re.escape(head) + r' \{(.*?)\n\}', source, re.S).group(1)
+    body = re.sub(r'//.*', '', body)
+    body = re.sub(r'#\[[^\]]*\]', '', body)
+    return [c.strip() for c in ENTRY.split(body) if c.strip()]
+
+
+def arms(source):
+    """The arms of keycode_from_scancode, in the order of their first codes: (codes ascending, key code)."""
+    source = re.sub(r'//.*', '', source[source.index('pub fn keycode_from_scancode'):])
+    pairs = re.findall(r'(0x[0-9A-F]{4}) => KeyCode::(\w+),', source)
+    assert len(pairs) + 1 == source.count('=>')
+    codes = {}
+    for code, key in pairs:
+        codes.setdefault(key, []).append(code)
+    return [(sorted(cs), key) for key, cs in codes.items()]
+
+
+KEYBOARD = read('keyboard.rs')
+KEY = cases(KEYBOARD, "Key<'a>")
+CODE = cases(KEYBOARD, 'KeyCode')
+PLAIN = CODE[1:]
+ARMS = arms(read('platform_impl/windows/keycode.rs'))
+PLACES = ['Alt', 'AltGraph', 'Control', 'NumLock', 'Enter', 'Tab', 'Space', 'Backspace', 'Escape', 'Pause']
+assert KEY[0].startswith('Character(') and KEY[1].startswith('Unidentified(') and KEY[2].startswith('Dead(')
+assert CODE[0].startswith('Unidentified(') and not any('(' in c for c in PLAIN + KEY[3:])
+
+
+def lines(form, items):
+    return ''.join(form(i, x) + '\n' for i, x in enumerate(items))
+
+
+def places():
+    def one(name, value):
+        return f'\nabbrev pub {name} : ℕ\n{name} = {value}\n'
+    return ('-- Places of cases in tao\'s Key, counted from 0: Character is at 0, Unidentified at 1, Dead at 2, and the keys without a value follow.\n'
+            '-- Assumes nothing.\nuse Prim.Native.Nat.{ℕ}\n'
+            '\n-- the first case without a value' + one('firstNamed', 3)
+            + '\n-- how many cases there are' + one('keyCases', len(KEY))
+            + ''.join(one(p[0].lower() + p[1:], KEY.index(p)) for p in PLACES))
+
+
+def place_code():
+    def one(name, value):
+        return f'pub const {name}: u16 = {value};\n\n'
+    return (one('FIRST_NAMED', 3) + one('KEY_CASES', len(KEY))
+            + ''.join(one(re.sub('(?<=[a-z])(?=[A-Z])', '_', p).upper(), KEY.index(p)) for p in PLACES))
+
+
+def number_specs():
+    def clauses(name, first, plain):
+        return f'{name} (kc.Unidentified c) = {first}\n' + lines(lambda i, c: f'{name} kc.{c} = {plain(i + 1)}', PLAIN)
+    return f'''-- A key code's place in tao's KeyCode, and the key code at a place.
+-- Assumes nothing.
+use Prim.Native.Nat.{{ℕ}}
+use mathlib.Core.List.{{List, [], _∷_}}
+use Rattle.area.specs.Look.{{lookup}}
+use Rattle.keys.specs.declared.NativeKeyCode.{{NativeKeyCode}}
+use Rattle.keys.specs.declared.NativeKeyCode.the-variants as nat
+use Rattle.keycode.specs.declared.KeyCode.{{KeyCode}}
+use Rattle.keycode.specs.declared.KeyCode.the-variants as kc
+
+-- how many cases there are
+abbrev pub codeCases : ℕ
+codeCases = {len(CODE)}
+
+-- the place of the case, from 0
+unfoldable pub codeNumber : KeyCode → ℕ
+{clauses('codeNumber', '0', str)}
+-- the native code that an unidentified key code holds
+unfoldable pub codeNative : KeyCode → NativeKeyCode
+{clauses('codeNative', 'c', lambda i: 'nat.Unidentified')}
+-- the key codes that hold nothing, each with its place
+unfoldable pub codes : List (ℕ × KeyCode)
+codes =
+{lines(lambda i, c: f'    ({i + 1}, kc.{c}) ∷', PLAIN)}    []
+
+-- the key code at a place; at 0 and past the last, the unidentified one with that native code
+unfoldable pub codeAt : ℕ → NativeKeyCode → KeyCode
+codeAt n c = lookup codes (kc.Unidentified c) n
+'''
+
+
+def enum():
+    return f'// How many cases tao\'s KeyCode has.\npub const CODE_CASES: u64 = {len(CODE)};\n\n// The place of a physical key, in tao\'s order.\n' + 'pub enum KeyCode {\n    Unidentified(NativeKeyCode),\n' + lines(lambda i, c: f'    {c},', PLAIN) + '}\n'
+
+
+def number_code():
+    arms = lines(lambda i, c: f'        KeyCode::{c} => return {i + 1},', PLAIN)
+    back = lines(lambda i, c: f'        {i + 1} => return KeyCode::{c},', PLAIN)
+    return f'''pub fn code_number(c: KeyCode) -> u16
+    ensures {{ λ r. ⌜ r ≡ codeNumber c ⌝ }}
+{{
+    match c {{
+        KeyCode::Unidentified(_) => return 0,
+{arms}    }}
+}}
+
+// The key code at a place; at 0 and past the last, the unidentified one with that native code.
+pub fn code_at(n: u16, native: NativeKeyCode) -> KeyCode
+    ensures {{ λ r. ⌜ r ≡ codeAt n native ⌝ }}
+{{
+    match n {{
+{back}        _ => return KeyCode::Unidentified(native),
+    }}
+}}
+'''
+
+
+def numbered(name, i):
+    return name + ('' if i == 1 else str(i))
+
+
+def code_number_proof():
+    answers = ''.join(f'    (λ c. c .match .keys{i})\n    (λ c. arm codeNumber (c .{numbered("enum-told", i)} .given .1))\n'
+                      for i in range(1, len(CODE) + 1))
+    return f'''-- `keycode::code_number` meets its contract: in each arm the key code is the arm's case, whose number computes.
+-- Assumes nothing.
+use Rattle.keys.proofs.Arms.{{arm}}
+use Rattle.keycode.specs.Number.{{codeNumber}}
+use Rattle.keycode.proofs.code_number.Statement.{{statement}}
+use Rattle.keycode.proofs.code_number.Tie as tie
+
+pub code-number-spec : {{M : Type 1}} → statement M
+unfolding codeNumber
+code-number-spec =
+    tie.close
+    (tie.spec
+{answers.rstrip()})
+'''
+
+
+def code_at_proof():
+    keys = ''.join(f'    ({i} ∷ []) ∷\n' for i in range(len(PLAIN), 0, -1))
+    answers = ''.join(f'    (λ c. arm (λ n. codeAt n (c .before .args .native)) (c .match .keys{i}))\n' for i in range(1, len(PLAIN) + 1))
+    return f'''-- `keycode::code_at` meets its contract: each arm's number is looked up by computing, and the arm `_` by `missed`.
+-- Assumes nothing.
+use mathlib.Core.List.{{List, [], _∷_}}
+use Prim.Native.Nat.{{ℕ}}
+use Rattle.area.specs.Look.{{lookup}}
+use Rattle.area.proofs.Switch.{{missed}}
+use Rattle.keys.proofs.Arms.{{arm}}
+use Rattle.keycode.specs.declared.KeyCode.the-variants as kc
+use Rattle.keycode.specs.Number.{{codeAt, codes}}
+use Rattle.keycode.proofs.code_at.Statement.{{statement}}
+use Rattle.keycode.proofs.code_at.Tie as tie
+
+-- the arms' keys, the last arm first
+arms : List (List ℕ)
+arms =
+{keys}    []
+
+pub code-at-spec : {{M : Type 1}} → statement M
+unfolding codeAt codes lookup arms
+code-at-spec =
+    tie.close
+    (tie.spec
+{answers}    (λ c. missed arms (c .before .args .n) (kc.Unidentified (c .before .args .native)) codes (c .match .rest) tt))
+'''
+
+
+def each_code_proof():
+    return f'''-- What is checked of each key code by computing: its number leads back to it, is below the number of cases, and is the machine's tag.
+-- Assumes nothing.
+use mathlib.Core.Path.{{_≡_, refl}}
+use mathlib.Core.Bool.{{true}}
+use lib.Dec.{{ltb}}
+use denote.Enum.Declared.{{tagOf, declared}}
+use Rattle.area.specs.Look.{{lookup}}
+use Rattle.keycode.specs.declared.KeyCode.{{KeyCode}}
+use Rattle.keycode.specs.declared.KeyCode.the-variants as kc
+use Rattle.keycode.specs.Number.{{codeCases, codeNumber, codeNative, codes, codeAt}}
+use Rattle.keycode.proofs.KeyCode as K
+
+pub each-code : (c : KeyCode) → (codeAt (codeNumber c) (codeNative c) ≡ c) × (ltb (codeNumber c) codeCases ≡ true) × (codeNumber c ≡ tagOf (declared K.enum) c)
+unfolding codeNumber codeNative codeAt codes lookup
+each-code (kc.Unidentified held) = (refl, refl, refl)
+{lines(lambda i, c: f'each-code kc.{c} = (refl, refl, refl)', PLAIN)}'''
+
+
+def scan_code():
+    arms = lines(lambda i, a: f'        {" | ".join(a[0])} => KeyCode::{a[1]},', ARMS)
+    return f'''pub fn keycode_from_scancode(scancode: u16) -> KeyCode
+    ensures {{ λ r. ⌜ r ≡ keyCodeOf scancode ⌝ }}
+{{
+    match scancode {{
+{arms}        _ => KeyCode::Unidentified(NativeKeyCode::Windows(scancode)),
+    }}
+}}
+'''
+
+
+def scan_specs():
+    rows = ''.join(f'    ({code}, kc.{key}) ∷\n' for codes, key in ARMS for code in codes)
+    return f'''-- The key code of a scan code, as tao's keycode.rs lists them.
+-- Assumes nothing.
+use Prim.Native.Nat.{{ℕ}}
+use mathlib.Core.List.{{List, [], _∷_}}
+use Rattle.area.specs.Look.{{lookup}}
+use Rattle.keys.specs.declared.NativeKeyCode.the-variants as nat
+use Rattle.keycode.specs.declared.KeyCode.{{KeyCode}}
+use Rattle.keycode.specs.declared.KeyCode.the-variants as kc
+
+-- the codes that it lists; where two share a key, the lower one first
+unfoldable pub scanCodes : List (ℕ × KeyCode)
+scanCodes =
+{rows}    []
+
+-- an unlisted code is unidentified, with the code inside
+unfoldable pub keyCodeOf : ℕ → KeyCode
+keyCodeOf n = lookup scanCodes (kc.Unidentified (nat.Windows n)) n
+'''
+
+
+def scan_proof():
+    keys = ''.join('    (' + ' ∷ '.join(codes) + ' ∷ []) ∷\n' for codes, _ in reversed(ARMS))
+
+    def answer(i, row):
+        way = f'c .match .keys{i + 1}'
+        return f'    (λ c. arm keyCodeOf ({way}))' if len(row[0]) == 1 else f'    (λ c. ⊎-elim (λ h. arm keyCodeOf h) (λ h. arm keyCodeOf h) ({way}))'
+    return f'''-- `scancode::keycode_from_scancode` meets its contract: each arm's code is looked up by computing, and the arm `_` by `missed`.
+-- Assumes nothing.
+use mathlib.Core.List.{{List, [], _∷_}}
+use mathlib.Core.Logic.{{⊎-elim}}
+use Prim.Native.Nat.{{ℕ}}
+use Rattle.area.specs.Look.{{lookup}}
+use Rattle.area.proofs.Switch.{{missed}}
+use Rattle.keys.specs.declared.NativeKeyCode.the-variants as nat
+use Rattle.keys.proofs.Arms.{{arm}}
+use Rattle.keycode.specs.declared.KeyCode.the-variants as kc
+use Rattle.scancode.specs.Codes.{{scanCodes, keyCodeOf}}
+use Rattle.scancode.proofs.keycode_from_scancode.Statement.{{statement}}
+use Rattle.scancode.proofs.keycode_from_scancode.Tie as tie
+
+-- the arms' codes, the last arm first
+arms : List (List ℕ)
+arms =
+{keys}    []
+
+pub keycode-from-scancode-spec : {{M : Type 1}} → statement M
+unfolding keyCodeOf scanCodes lookup arms
+keycode-from-scancode-spec =
+    tie.close
+    (tie.spec
+{lines(answer, ARMS)}    (λ c.
+      missed arms (c .before .args .scancode) (kc.Unidentified (nat.Windows (c .before .args .scancode))) scanCodes (c .match .rest) tt
+    ))
+'''
+
+
+def write(path, text):
+    os.makedirs(os.path.dirname(path), exist_ok=True)
+    with open(path, 'w', encoding='utf-8') as f:
+        f.write(text)
+
+
+def replace(path, **parts):
+    """Puts each part between its marks, `// NAME: from tao's files` and `// NAME: end`."""
+    with open(path, encoding='utf-8') as f:
+        text = f.read()
+    for name, part in parts.items():
+        marks = f"// {name}: from tao's files\n", f'// {name}: end\n'
+        assert text.count(marks[0]) == 1 and text.count(marks[1]) == 1, (path, name)
+        a, b = text.index(marks[0]) + len(marks[0]), text.index(marks[1])
+        text = text[:a] + part + text[b:]
+    write(path, text)
+
+
+def main():
+    write('crates/keys/specs/Places.antt', places())
+    replace('crates/keys/src/lib.rt', places=place_code())
+    write('crates/keycode/specs/Number.antt', number_specs())
+    write('crates/keycode/proofs/code_number/Proof.antt', code_number_proof())
+    write('crates/keycode/proofs/code_at/Proof.antt', code_at_proof())
+    write('crates/keycode/proofs/EachCode.antt', each_code_proof())
+    write('crates/scancode/specs/Codes.antt', scan_specs())
+    write('crates/scancode/proofs/keycode_from_scancode/Proof.antt', scan_proof())
+    replace('crates/scancode/src/lib.rt', keycode_from_scancode=scan_code())
+    replace('crates/keycode/src/lib.rt', KeyCode=enum(), numbers=number_code())
+
+
+if __name__ == '__main__':
+    sys.exit(main())
