@@ -1,0 +1,10 @@
+pub mod Entry
+pub mod Lists
+pub mod Passed
+pub mod Find
+pub mod Tables
+pub mod Round
+pub mod Rows
+pub mod Whole
+pub mod Only
+pub mod Read
