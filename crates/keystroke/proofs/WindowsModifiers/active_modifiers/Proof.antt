@@ -1,0 +1,30 @@
+use Rattle.keystroke.specs.Modifiers.{activeModifiers}
+use borrow.Author.Needs.{needs}
+use Rattle.keystroke.proofs.WindowsModifiers.active_modifiers.Statement.{statement}
+use Rattle.keystroke.proofs.WindowsModifiers.active_modifiers.Tie as tie
+
+any-down-requires : tie.Need-any-down-requires
+any-down-requires c κs = search needs
+
+any-down-requires-2 : tie.Need-any-down-requires-2
+any-down-requires-2 c κs = search needs
+
+any-down-requires-3 : tie.Need-any-down-requires-3
+any-down-requires-3 c κs = search needs
+
+caps-lock-on-requires : tie.Need-caps-lock-on-requires
+caps-lock-on-requires c κs = search needs
+
+returns : tie.Need-returns
+unfolding activeModifiers
+returns c = cc
+
+pub active-modifiers-spec : {M : Type 1} → statement M
+active-modifiers-spec =
+    tie.close
+    (tie.spec
+    any-down-requires
+    any-down-requires-2
+    any-down-requires-3
+    caps-lock-on-requires
+    returns)

@@ -1,0 +1,14 @@
+use Rattle.keystroke.specs.LParam.{virtualKey}
+use borrow.Author.Needs.{needs}
+use Rattle.keystroke.proofs.virtual_key.Statement.{statement}
+use Rattle.keystroke.proofs.virtual_key.Tie as tie
+
+cast-result : tie.Need-cast-result
+cast-result c = search needs
+
+returns : tie.Need-returns
+unfolding virtualKey
+returns c = search needs
+
+pub virtual-key-spec : {M : Type 1} → statement M
+virtual-key-spec = tie.close (tie.spec cast-result returns)

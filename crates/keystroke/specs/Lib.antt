@@ -1,0 +1,2 @@
+pub mod LParam
+pub mod Modifiers

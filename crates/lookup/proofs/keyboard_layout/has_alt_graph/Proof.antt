@@ -1,0 +1,15 @@
+use Rattle.lookup.proofs.Tables.{headed}
+use Rattle.block.proofs.Read.{flag-read}
+use native.Mathlib.Omega.{arith}
+use mathlib.Core.Path.{sym}
+use Rattle.lookup.proofs.keyboard_layout.has_alt_graph.Statement.{statement}
+use Rattle.lookup.proofs.keyboard_layout.has_alt_graph.Tie as tie
+
+shared-slice-read-result : tie.Need-shared-slice-read-result
+shared-slice-read-result c = let h = headed (c .before .args .block .now) (c .before .pre) in omega arith
+
+returns : tie.Need-returns
+returns c = sym (flag-read (c .before .args .block .now))
+
+pub has-alt-graph-spec : {M : Type 1} → statement M
+has-alt-graph-spec = tie.close (tie.spec shared-slice-read-result returns)

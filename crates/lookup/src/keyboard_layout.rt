@@ -1,0 +1,205 @@
+// tao's keyboard_layout.rs over the lent layout block: its tables, get_key and a key's text.
+ghost use mathlib.Core.Path.{_≡_};
+ghost use mathlib.Core.Bool.{true};
+ghost use Prim.Native.Nat.{_+_, _≤_, _<_};
+ghost use lib.ListN.{length, drop};
+ghost use Rattle.area.specs.Pick.{pick};
+ghost use Rattle.block.specs.Block.{listKeyOk, listOk, cellAt, startOf, blockOk, mapsOf, placeOf, placeIn, HEAD, CELLS, LISTS, BLOCK-MOST};
+ghost use Rattle.keystroke.specs.Modifiers.{bitsOf};
+ghost use Rattle.lookup.specs.Layout.{nonCharKey, getKey, scanCodeFor, vkeyFor, partOf, keyIn, foundAt};
+use keycode::KeyCode;
+use keys::Key;
+use keys::NativeKeyCode;
+use keystroke::WindowsModifiers;
+
+// A key of the layout. The text of a character is the part of the block from start, len bytes long.
+pub struct LayoutKey {
+    pub key: Key,
+    pub start: usize,
+    pub len: usize,
+}
+
+// ---- the tables
+
+fn cell(block: &[u8], i: usize) -> u16
+    requires { ⌜ (HEAD ≤ length (now block)) × (i < CELLS) ⌝ }
+    ensures { λ r. ⌜ r ≡ cellAt (now (block .entry)) i ⌝ }
+{
+    area::get_u16(block, 74 + 2 * i)
+}
+
+pub fn has_alt_graph(block: &[u8]) -> bool
+    requires { ⌜ blockOk (now block) ≡ true ⌝ }
+    ensures { λ r. ⌜ r ≡ mapsOf (now (block .entry)) .hasAltGraph ⌝ }
+{
+    block[0] == 1
+}
+
+// MapVirtualKeyExW with MAPVK_VK_TO_VSC_EX.
+pub fn scancode_for(block: &[u8], vkey: u16) -> u16
+    requires { ⌜ blockOk (now block) ≡ true ⌝ }
+    ensures { λ r. ⌜ r ≡ scanCodeFor (mapsOf (now (block .entry))) vkey ⌝ }
+{
+    if 256 <= vkey {
+        return 0;
+    }
+    cell(block, 256 + vkey as usize)
+}
+
+// MapVirtualKeyExW with MAPVK_VSC_TO_VK_EX.
+pub fn vkey_for(block: &[u8], scancode: u16) -> u16
+    requires { ⌜ blockOk (now block) ≡ true ⌝ }
+    ensures { λ r. ⌜ r ≡ vkeyFor (mapsOf (now (block .entry))) scancode ⌝ }
+{
+    let i = scancode as usize;
+    if i < 0x100 {
+        return cell(block, 512 + i);
+    }
+    if i < 0xE000 {
+        return 0;
+    }
+    if i < 0xE200 {
+        return cell(block, 512 + (i - 0xE000 + 0x100));
+    }
+    0
+}
+
+// The place of the non-character key of a virtual key, 0 where there is none.
+fn non_char_key(block: &[u8], vkey: u16) -> u16
+    requires { ⌜ blockOk (now block) ≡ true ⌝ }
+    ensures { λ r. ⌜ r ≡ nonCharKey (mapsOf (now (block .entry))) vkey ⌝ }
+{
+    if vkey == 0x12 {
+        return 0;
+    }
+    if 256 <= vkey {
+        return 0;
+    }
+    cell(block, vkey as usize)
+}
+
+// ---- keys
+
+fn wide(x: u8) -> usize
+    ensures { λ r. ⌜ (r ≡ x) × (r < 256) ⌝ }
+{
+    x as usize
+}
+
+// Where list j starts.
+fn start_of(block: &[u8], j: usize) -> usize
+    requires { ⌜ (HEAD ≤ length (now block)) × (j ≤ LISTS) ⌝ }
+    ensures { λ r. ⌜ r ≡ startOf (now (block .entry)) j ⌝ }
+{
+    let mut i: usize = 0;
+    let mut at: usize = 2634;
+    while i < j {
+        at += area::get_u16(block, 38 + 2 * i) as usize;
+        i += 1;
+    }
+    at
+}
+
+// Where the entry with that key stands, of n that start at `start`; 0 where there is none.
+fn place(block: &[u8], by_vkey: bool, n: u16, start: usize, key: u64) -> usize
+    requires { ⌜ (start ≤ length (now block)) × (length (now block) ≤ BLOCK-MOST) × (listOk (listKeyOk «by_vkey») n 0 (drop start (now block)) ≡ true) ⌝ }
+    ensures { λ r. ⌜ r ≡ placeOf n key (drop start (now (block .entry))) start ⌝ }
+{
+    let mut left = n;
+    let mut at = start;
+    while 0 < left {
+        let l = &block[at..];
+        let k = area::get_u64(l, 0);
+        if k == key {
+            return at;
+        }
+        at += 16 + wide(l[11]);
+        left -= 1;
+    }
+    0
+}
+
+// Where the entry with that key stands in list j, 0 where there is none.
+fn place_in(block: &[u8], j: usize, key: u64) -> usize
+    requires { ⌜ (blockOk (now block) ≡ true) × (j < LISTS) ⌝ }
+    ensures { λ r. ⌜ r ≡ placeIn (now (block .entry)) j key ⌝ }
+{
+    let start = start_of(block, j);
+    let n = area::get_u16(block, 2 + 2 * j);
+    place(block, j < 2, n, start, key)
+}
+
+// The key of the entry at a place.
+fn found_at(block: &[u8], at: usize) -> LayoutKey
+    requires { ⌜ (at + 16 ≤ length (now block)) × (length (now block) ≤ BLOCK-MOST) ⌝ }
+    ensures { λ r. ⌜ r ≡ foundAt (now (block .entry)) at ⌝ }
+{
+    let number = area::get_u16(block, at + 8);
+    let value = area::get_u32(block, at + 12);
+    let key = keys::key_at(number, block[at + 10], value);
+    LayoutKey {
+        key,
+        start: at + 16,
+        len: wide(block[at + 11]),
+    }
+}
+
+// A key that holds no text.
+fn bare(key: Key) -> LayoutKey
+    ensures { λ r. ⌜ (r .key ≡ key) × (r .len ≡ 0) ⌝ }
+{
+    LayoutKey {
+        key,
+        start: 0,
+        len: 0,
+    }
+}
+
+fn num_lock_list(num_lock_on: bool) -> usize
+    ensures { λ r. ⌜ (r ≡ pick «num_lock_on» 0 1) × (r < LISTS) ⌝ }
+{
+    if num_lock_on { 0 } else { 1 }
+}
+
+// tao's Layout::get_key. A virtual key above FF finds nothing in the first two lookups.
+pub fn get_key(
+    block: &[u8],
+    mods: WindowsModifiers,
+    num_lock_on: bool,
+    vkey: u16,
+    scancode: u16,
+    code: KeyCode,
+) -> LayoutKey
+    requires { ⌜ blockOk (now block) ≡ true ⌝ }
+    ensures { λ r. ⌜ keyIn (now (block .entry)) r ≡ getKey (mapsOf (now (block .entry))) (bitsOf mods) «num_lock_on» vkey scancode code ⌝ }
+{
+    let n = non_char_key(block, vkey);
+    if n != 0 {
+        return bare(Key::Named(n));
+    }
+    let p = place_in(block, num_lock_list(num_lock_on), vkey as u64);
+    if p != 0 {
+        return found_at(block, p);
+    }
+    let q = place_in(block, 2 + mods.bits(), keycode::code_key(code));
+    if q != 0 {
+        return found_at(block, q);
+    }
+    bare(Key::Unidentified(NativeKeyCode::Windows(scancode)))
+}
+
+// The text of a key, as the part of the block that holds it.
+pub fn key_text<'a>(block: &'a [u8], k: LayoutKey) -> &'a [u8]
+    ensures { λ r. ⌜ now r ≡ partOf (now (block .entry)) k ⌝ }
+{
+    let start = k.start;
+    let len = k.len;
+    if block.len() < start {
+        return &block[0..0];
+    }
+    if block.len() - start < len {
+        return &block[start..];
+    }
+    let e = start + len;
+    &block[start..e]
+}

@@ -1,0 +1,15 @@
+// The lookups. What the message part asks is here or, where it needs no layout, handed on from the crates below; the message part relies on
+// these contracts alone.
+pub mod keyboard;
+pub mod keyboard_layout;
+
+pub use block::block_ok;
+pub use keystroke::KeyLParam;
+pub use keystroke::WindowsModifiers;
+pub use keystroke::caps_lock_on;
+pub use keystroke::destructure_key_lparam;
+pub use keystroke::ex_scancode_from_lparam;
+pub use keystroke::is_down;
+pub use keystroke::num_lock_on;
+pub use keystroke::virtual_key;
+pub use scancode::keycode_from_scancode;
