@@ -1,0 +1,2 @@
+//! docs/AREAS.md in Rust, written from that page alone.
+pub mod block;

@@ -1,0 +1,60 @@
+//! Writes the data files and the expected outputs of the programs under crates/, or compares them.
+//! tao gives every answer but those on texts, which Rust's standard library gives.
+use std::{env, fs, path::Path, process::ExitCode};
+
+mod keyboard;
+mod locations;
+mod scancodes;
+mod texts;
+
+/// Path from the repository's folder, and contents.
+type File = (&'static str, Vec<u8>);
+
+fn files() -> Vec<File> {
+  let us = keyboard::us();
+  let pages = locations::pages();
+  vec![
+    ("crates/scancodes/stdout", scancodes::output().into()),
+    ("crates/locations/data/locations.block", keyboard::block(&pages)),
+    ("crates/locations/stdout", locations::output(&pages).into()),
+    ("crates/keyboard/data/us.block", keyboard::block(&us)),
+    ("crates/keyboard/stdout", keyboard::output(&us).into()),
+    ("crates/texts/stdout", texts::output().into()),
+  ]
+}
+
+fn write(root: &Path, (path, bytes): &File) -> bool {
+  let path = root.join(path);
+  fs::create_dir_all(path.parent().unwrap()).unwrap();
+  fs::write(path, bytes).unwrap();
+  true
+}
+
+fn compare(root: &Path, (path, bytes): &File) -> bool {
+  let same = fs::read(root.join(path)).is_ok_and(|b| b == *bytes);
+  println!("{path}: {}", if same { "the same" } else { "DIFFERENT" });
+  same
+}
+
+fn main() -> ExitCode {
+  let words: Vec<String> = env::args().skip(1).collect();
+  let words: Vec<&str> = words.iter().map(String::as_str).collect();
+  let done = match words[..] {
+    ["write", root] => files().iter().all(|f| write(Path::new(root), f)),
+    // every file is named, not only the first that differs
+    ["compare", root] => files().iter().filter(|f| !compare(Path::new(root), f)).count() == 0,
+    ["sizes"] => {
+      print!("{}", keyboard::sizes(&keyboard::us()));
+      true
+    }
+    _ => {
+      eprintln!("expected write ROOT | compare ROOT | sizes");
+      false
+    }
+  };
+  if done {
+    ExitCode::SUCCESS
+  } else {
+    ExitCode::FAILURE
+  }
+}

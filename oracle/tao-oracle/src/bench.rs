@@ -1,0 +1,77 @@
+//! tao alone on a scanner burst: no script, no conversion, the peek answered from a cell.
+use crate::{
+  driver::{install, tables_of},
+  platform_impl::platform::{event_loop::ProcResult, keyboard::KeyEventBuilder},
+  shim,
+};
+use kbtypes as t;
+use std::{cell::Cell, hint::black_box, time::Instant};
+use windows::{
+  env::Env,
+  Win32::{
+    Foundation::{HWND, LPARAM, LRESULT, WPARAM},
+    UI::WindowsAndMessaging::MSG,
+  },
+};
+
+thread_local! { static NEXT: Cell<Option<(u32, isize)>> = const { Cell::new(None) }; }
+
+fn peek(msg: &mut MSG) -> bool {
+  match NEXT.with(|c| c.get()) {
+    None => false,
+    Some((k, l)) => {
+      msg.message = k;
+      msg.lParam = LPARAM(l);
+      true
+    }
+  }
+}
+
+/// Runs `rounds` times ten digits, each press, character, release. Gives nanoseconds per message
+/// and the number of events (two for each digit).
+pub fn scanner_burst(layout: &t::LayoutSpec, rounds: u32) -> (f64, u64) {
+  install(layout);
+  let tables = tables_of(layout);
+  let state = [0u8; 256];
+  windows::env::set(Env {
+    hkl: layout.id as isize,
+    state: &state,
+    tables: &tables,
+    peek: Some(peek),
+    to_unicode: None,
+  });
+  shim::set_non_char(&layout.non_char);
+  let b = KeyEventBuilder::default();
+  let hwnd = HWND(std::ptr::null_mut());
+  let mut events = 0u64;
+  let start = Instant::now();
+  for _ in 0..rounds {
+    for d in 0..10usize {
+      let scan: isize = if d == 0 { 0x0B } else { 1 + d as isize };
+      let down = scan << 16 | 1;
+      let up = down | 0xC000_0000;
+      for (kind, w, l, next) in [
+        (0x100, 0x30 + d, down, Some((0x102, down))),
+        (0x102, 0x30 + d, down, Some((0x101, up))),
+        (0x101, 0x30 + d, up, None),
+      ] {
+        NEXT.with(|c| c.set(next));
+        let mut r = ProcResult::DefWindowProc;
+        let out = b.process_message(hwnd, kind, WPARAM(w), LPARAM(l), &mut r);
+        events += out.len() as u64;
+        black_box(&out);
+        black_box(matches!(r, ProcResult::Value(LRESULT(0))));
+      }
+    }
+  }
+  let ns = start.elapsed().as_nanos() as f64 / (f64::from(rounds) * 30.0);
+  (ns, events)
+}
+
+#[cfg(test)]
+mod tests {
+  #[test]
+  fn every_digit_is_pressed_and_released() {
+    assert_eq!(super::scanner_burst(&kbtypes::LayoutSpec::empty(78), 7).1, 140);
+  }
+}
