@@ -2,7 +2,7 @@
 use keys::NativeKeyCode;
 ghost use mathlib.Core.Path.{_≡_};
 ghost use Rattle.keycode.specs.Number.{codeNumber, codeNative, codeAt};
-ghost use Rattle.keycode.specs.CodeKey.{codeKey, codeKeyOk, codeOfKey};
+ghost use Rattle.keycode.specs.CodeKey.{codeKey, codeKeyOk};
 
 // A key code's number has its native code's value in the low 32 bits, the native code's kind in 8 bits above, and the place above those.
 const KIND_UNIT: u64 = 0x1_0000_0000;
@@ -656,18 +656,4 @@ pub fn code_key_ok(key: u64) -> bool
         return keys::native_ok(kind, value);
     }
     keys::none_held(kind, value)
-}
-
-// The key code of a number; a place past the last gives the unidentified one.
-pub fn code_of_key(key: u64) -> KeyCode
-    ensures { λ r. ⌜ r ≡ codeOfKey key ⌝ }
-{
-    let place = key / PLACE_UNIT;
-    let kind = (key / KIND_UNIT % 256) as u8;
-    let value = (key % KIND_UNIT) as u32;
-    let native = keys::native_at(kind, value);
-    if place < CODE_CASES {
-        return code_at(place as u16, native);
-    }
-    KeyCode::Unidentified(native)
 }

@@ -1,0 +1,52 @@
+-- Assumes nothing.
+use Prim.Native.Nat.{_≤_, _-_}
+use lib.ListN.{length}
+use mathlib.Core.Path.{_≡_}
+use borrow.Author.Needs.{needs}
+use Rattle.timing.proofs.scan.Statement.{statement}
+use Rattle.timing.proofs.scan.Tie as tie
+
+abbrev Inv-loop : tie.InvT-loop
+Inv-loop bytes₀ rounds zeros₀ i₀ bytes zeros i = (zeros ≤ i) × (i ≤ rounds) × (length bytes ≡ length bytes₀)
+
+abbrev μ-loop : tie.MeasureT-loop
+μ-loop bytes₀ rounds zeros₀ i₀ bytes zeros i = rounds - i
+
+loop-holds : tie.Need-loop-holds Inv-loop μ-loop
+loop-holds c = search needs
+
+scan-one-requires : tie.Need-scan-one-requires Inv-loop μ-loop
+scan-one-requires c κs = search needs
+
+add-zeros : tie.Need-add-zeros Inv-loop μ-loop
+add-zeros c = search needs
+
+add-i : tie.Need-add-i Inv-loop μ-loop
+add-i c = search needs
+
+loop-less : tie.Need-loop-less Inv-loop μ-loop
+loop-less c = search needs
+
+loop-again : tie.Need-loop-again Inv-loop μ-loop
+loop-again c = search needs
+
+same-length : tie.Need-same-length Inv-loop μ-loop
+same-length c = search needs
+
+returns : tie.Need-returns Inv-loop μ-loop
+returns c = search needs
+
+pub scan-spec : {M : Type 1} → statement M
+scan-spec =
+    tie.close
+    (tie.spec
+    Inv-loop
+    μ-loop
+    loop-holds
+    scan-one-requires
+    add-zeros
+    add-i
+    loop-less
+    loop-again
+    same-length
+    returns)
