@@ -301,7 +301,7 @@ pub fn utf16_text(units: &[u16]) -> Utf8
 pub fn well_formed(t: &[u8]) -> bool
     ensures { λ r. ⌜ r ≡ wellFormed (now (t .entry)) ⌝ }
 {
-    if area::or_all(t) < 0x80 {
+    if span::or_all(t) < 0x80 {
         return true;
     }
     let mut i: usize = 0;

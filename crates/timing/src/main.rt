@@ -138,7 +138,7 @@ fn scan_one(bytes: &mut [u8], i: u64) -> u64
         return 0;
     }
     bytes[at] = 0;
-    if area::zero_from(bytes, 0) {
+    if span::zero_from(bytes, 0) {
         return 1;
     }
     0
@@ -162,7 +162,7 @@ fn fill_one(bytes: &mut [u8], i: u64) -> u64
     if bytes.len() < from {
         return 0;
     }
-    area::fill_zero(bytes, from);
+    span::fill_zero(bytes, from);
     1
 }
 

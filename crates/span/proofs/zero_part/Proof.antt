@@ -1,9 +1,9 @@
--- `area::zero_part` meets its contract.
+-- `span::zero_part` meets its contract.
 -- Assumes nothing.
 use borrow.Author.Needs.{needs}
 use Rattle.area.proofs.Zero.{scanned}
-use Rattle.area.proofs.zero_part.Statement.{statement}
-use Rattle.area.proofs.zero_part.Tie as tie
+use Rattle.span.proofs.zero_part.Statement.{statement}
+use Rattle.span.proofs.zero_part.Tie as tie
 
 sub-or-all : tie.Need-sub-or-all
 sub-or-all c = search needs

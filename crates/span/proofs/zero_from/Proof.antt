@@ -1,12 +1,12 @@
--- `area::zero_from` meets its contract.
+-- `span::zero_from` meets its contract.
 -- Assumes nothing.
 use borrow.Author.Needs.{needs}
 use mathlib.Core.Path.{sym, ap, _∙_}
 use Rattle.area.specs.Zero.{allZero}
 use Rattle.area.proofs.Splice.{part-rest}
 use Rattle.area.proofs.Zero.{allZero-end, scanned}
-use Rattle.area.proofs.zero_from.Statement.{statement}
-use Rattle.area.proofs.zero_from.Tie as tie
+use Rattle.span.proofs.zero_from.Statement.{statement}
+use Rattle.span.proofs.zero_from.Tie as tie
 
 returns : tie.Need-returns
 returns c =

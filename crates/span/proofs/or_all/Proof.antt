@@ -1,13 +1,13 @@
--- `area::or_all` meets its contract. The loop's invariant: what is gathered so far, with the rest, gives the whole.
+-- `span::or_all` meets its contract. The loop's invariant: what is gathered so far, with the rest, gives the whole.
 -- Assumes nothing.
 use borrow.Author.Needs.{needs}
 use mathlib.Core.Path.{_≡_, refl, sym, _∙_}
 use Prim.Native.Nat.{_-_}
 use lib.ListN.{length, drop}
 use Rattle.area.specs.Zero.{orRest}
 use Rattle.area.proofs.Zero.{orRest-turn, orRest-end}
-use Rattle.area.proofs.or_all.Statement.{statement}
-use Rattle.area.proofs.or_all.Tie as tie
+use Rattle.span.proofs.or_all.Statement.{statement}
+use Rattle.span.proofs.or_all.Tie as tie
 
 abbrev Inv-loop : tie.InvT-loop
 Inv-loop t acc₀ i₀ acc i = orRest acc (drop i t) ≡ orRest 0 t
