@@ -60,7 +60,7 @@ fn entry_len(l: &[u8], by_vkey: bool, lo: u64) -> usize
         return 0;
     }
     let e = 16 + n;
-    if !text::well_formed(&l[16..e]) {
+    if !utf8::well_formed(&l[16..e]) {
         return 0;
     }
     e

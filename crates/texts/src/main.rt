@@ -56,7 +56,7 @@ fn show_text(units: &[u16]) {
     }
     show_units(units);
     io::write_all(STDOUT_FILENO, b"->");
-    let text = text::utf16_text(units);
+    let text = utf16::utf16_text(units);
     let bytes = text.bytes;
     if !text.valid {
         io::write_all(STDOUT_FILENO, b" none\n");
@@ -69,7 +69,7 @@ fn show_text(units: &[u16]) {
 // Bytes, and whether they are UTF-8.
 fn show_check(t: &[u8]) {
     show_first(t);
-    if text::well_formed(t) {
+    if utf8::well_formed(t) {
         io::write_all(STDOUT_FILENO, b" ok\n");
     } else {
         io::write_all(STDOUT_FILENO, b" bad\n");

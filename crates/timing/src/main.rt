@@ -112,7 +112,7 @@ fn convert_one(i: u64) -> u64
 {
     let mut units = [0x0031u16; 16];
     units[0] = (i % 0x8000) as u16;
-    let text = text::utf16_text(&units);
+    let text = utf16::utf16_text(&units);
     if text.valid {
         return 1;
     }
