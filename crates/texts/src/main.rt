@@ -1,19 +1,61 @@
-// Published examples of UTF-16 and UTF-8, through the conversion and the check.
+// Published examples of UTF-16 and UTF-8, through the conversion and the check. A row of a table is a count, so many units or bytes, and zeros.
 use libc::STDOUT_FILENO;
 
-fn wide(x: u8) -> u64 {
-    x as u64
-}
+// The Unicode Standard's examples of the encoding forms, an emoji, surrogates without their partners, two zeros.
+const UNITS: [[u16; 4]; 12] = [
+    [1, 0x004D, 0, 0],
+    [1, 0x0430, 0, 0],
+    [1, 0x4E8C, 0, 0],
+    [2, 0xD800, 0xDF02, 0],
+    [2, 0xD83D, 0xDE00, 0],
+    [1, 0xD83D, 0, 0],
+    [1, 0xDE00, 0, 0],
+    [2, 0xDE00, 0xD83D, 0],
+    [2, 0x0061, 0xD83D, 0],
+    [2, 0xD83D, 0x0061, 0],
+    [3, 0xD83D, 0xD83D, 0xDE00],
+    [2, 0x0000, 0x0000, 0],
+];
 
-fn show_unit(u: u16) {
-    io::print_hex(STDOUT_FILENO, u as u64, 4);
-    io::write_all(STDOUT_FILENO, b" ");
-}
+// RFC 3629, section 7; ill-formed bytes; the ends of the rows of the Unicode Standard's table 3-7.
+const BYTES: [[u8; 10]; 28] = [
+    [7, 0x41, 0xE2, 0x89, 0xA2, 0xCE, 0x91, 0x2E, 0, 0],
+    [9, 0xED, 0x95, 0x9C, 0xEA, 0xB5, 0xAD, 0xEC, 0x96, 0xB4],
+    [9, 0xE6, 0x97, 0xA5, 0xE6, 0x9C, 0xAC, 0xE8, 0xAA, 0x9E],
+    [7, 0xEF, 0xBB, 0xBF, 0xF0, 0xA3, 0x8E, 0xB4, 0, 0],
+    [2, 0xC0, 0xAF, 0, 0, 0, 0, 0, 0, 0],
+    [3, 0xE0, 0x9F, 0x80, 0, 0, 0, 0, 0, 0],
+    [4, 0xF4, 0x90, 0x80, 0x80, 0, 0, 0, 0, 0],
+    [2, 0xC1, 0xBF, 0, 0, 0, 0, 0, 0, 0],
+    [3, 0xED, 0xA0, 0x80, 0, 0, 0, 0, 0, 0],
+    [3, 0xED, 0xBF, 0xBF, 0, 0, 0, 0, 0, 0],
+    [4, 0xF0, 0x80, 0x80, 0x80, 0, 0, 0, 0, 0],
+    [5, 0xF8, 0x88, 0x80, 0x80, 0x80, 0, 0, 0, 0],
+    [1, 0x80, 0, 0, 0, 0, 0, 0, 0, 0],
+    [1, 0xC2, 0, 0, 0, 0, 0, 0, 0, 0],
+    [2, 0xE2, 0x82, 0, 0, 0, 0, 0, 0, 0],
+    [3, 0xF0, 0x9F, 0x98, 0, 0, 0, 0, 0, 0],
+    [4, 0xF5, 0x80, 0x80, 0x80, 0, 0, 0, 0, 0],
+    [2, 0xC3, 0x28, 0, 0, 0, 0, 0, 0, 0],
+    [2, 0xC2, 0x80, 0, 0, 0, 0, 0, 0, 0],
+    [2, 0xDF, 0xBF, 0, 0, 0, 0, 0, 0, 0],
+    [3, 0xE0, 0xA0, 0x80, 0, 0, 0, 0, 0, 0],
+    [3, 0xED, 0x9F, 0xBF, 0, 0, 0, 0, 0, 0],
+    [3, 0xEE, 0x80, 0x80, 0, 0, 0, 0, 0, 0],
+    [3, 0xEF, 0xBF, 0xBF, 0, 0, 0, 0, 0, 0],
+    [4, 0xF0, 0x90, 0x80, 0x80, 0, 0, 0, 0, 0],
+    [4, 0xF4, 0x8F, 0xBF, 0xBF, 0, 0, 0, 0, 0],
+    [1, 0x00, 0, 0, 0, 0, 0, 0, 0, 0],
+    [1, 0x7F, 0, 0, 0, 0, 0, 0, 0, 0],
+];
 
+// A blank stands behind each unit.
 fn show_units(units: &[u16]) {
     let mut i: usize = 0;
     while i < units.len() {
-        show_unit(units[i]);
+        let u = units[i] as u64;
+        io::print_hex(STDOUT_FILENO, u, 4);
+        io::write_all(STDOUT_FILENO, b" ");
         i += 1;
     }
 }
@@ -22,119 +64,70 @@ fn show_units(units: &[u16]) {
 fn show_bytes(t: &[u8]) {
     let mut i: usize = 0;
     while i < t.len() {
+        let b = t[i] as u64;
         io::write_all(STDOUT_FILENO, b" ");
-        io::print_hex(STDOUT_FILENO, wide(t[i]), 2);
+        io::print_hex(STDOUT_FILENO, b, 2);
         i += 1;
     }
 }
 
-fn show_first(t: &[u8]) {
-    if t.len() == 0 {
+fn show_start(t: [u8; 48], n: usize) {
+    if 48 < n {
         return;
     }
-    io::print_hex(STDOUT_FILENO, wide(t[0]), 2);
-    show_bytes(&t[1..]);
-}
-
-// The first n of a text's bytes.
-fn show_start(t: &[u8; 48], n: usize) {
-    let mut i: usize = 0;
-    while i < n {
-        if 48 <= i {
-            return;
-        }
-        io::write_all(STDOUT_FILENO, b" ");
-        io::print_hex(STDOUT_FILENO, wide(t[i]), 2);
-        i += 1;
-    }
+    show_bytes(&t[0..n]);
 }
 
 // UTF-16 units and their text.
-fn show_text(units: &[u16]) {
-    if 16 < units.len() {
+fn show_text(row: [u16; 4]) {
+    let n = row[0] as usize;
+    if 3 < n {
         return;
     }
+    let units = &row[1..n + 1];
     show_units(units);
     io::write_all(STDOUT_FILENO, b"->");
     let text = utf16::utf16_text(units);
     let bytes = text.bytes;
-    if !text.valid {
+    if text.valid {
+        show_start(bytes, text.len);
+        io::write_all(STDOUT_FILENO, b"\n");
+    } else {
         io::write_all(STDOUT_FILENO, b" none\n");
-        return;
     }
-    show_start(&bytes, text.len);
-    io::write_all(STDOUT_FILENO, b"\n");
 }
 
 // Bytes, and whether they are UTF-8.
-fn show_check(t: &[u8]) {
-    show_first(t);
-    if utf8::well_formed(t) {
+fn show_check(row: [u8; 10]) {
+    let n = row[0] as usize;
+    if 9 < n {
+        return;
+    }
+    if n == 0 {
+        return;
+    }
+    io::print_hex(STDOUT_FILENO, row[1] as u64, 2);
+    show_bytes(&row[2..n + 1]);
+    if utf8::well_formed(&row[1..n + 1]) {
         io::write_all(STDOUT_FILENO, b" ok\n");
     } else {
         io::write_all(STDOUT_FILENO, b" bad\n");
     }
 }
 
-// The Unicode Standard's examples of the encoding forms, an emoji, surrogates without their partners, two zeros.
 fn show_texts() {
-    show_text(&[0x004D]);
-    show_text(&[0x0430]);
-    show_text(&[0x4E8C]);
-    show_text(&[0xD800, 0xDF02]);
-    show_text(&[0xD83D, 0xDE00]);
-    show_text(&[0xD83D]);
-    show_text(&[0xDE00]);
-    show_text(&[0xDE00, 0xD83D]);
-    show_text(&[0x0061, 0xD83D]);
-    show_text(&[0xD83D, 0x0061]);
-    show_text(&[0xD83D, 0xD83D, 0xDE00]);
-    show_text(&[0x0000, 0x0000]);
-}
-
-// RFC 3629, section 7.
-fn show_rfc() {
-    show_check(&[0x41, 0xE2, 0x89, 0xA2, 0xCE, 0x91, 0x2E]);
-    show_check(&[0xED, 0x95, 0x9C, 0xEA, 0xB5, 0xAD, 0xEC, 0x96, 0xB4]);
-    show_check(&[0xE6, 0x97, 0xA5, 0xE6, 0x9C, 0xAC, 0xE8, 0xAA, 0x9E]);
-    show_check(&[0xEF, 0xBB, 0xBF, 0xF0, 0xA3, 0x8E, 0xB4]);
-}
-
-// Ill-formed bytes.
-fn show_bad() {
-    show_check(&[0xC0, 0xAF]);
-    show_check(&[0xE0, 0x9F, 0x80]);
-    show_check(&[0xF4, 0x90, 0x80, 0x80]);
-    show_check(&[0xC1, 0xBF]);
-    show_check(&[0xED, 0xA0, 0x80]);
-    show_check(&[0xED, 0xBF, 0xBF]);
-    show_check(&[0xF0, 0x80, 0x80, 0x80]);
-    show_check(&[0xF8, 0x88, 0x80, 0x80, 0x80]);
-    show_check(&[0x80]);
-    show_check(&[0xC2]);
-    show_check(&[0xE2, 0x82]);
-    show_check(&[0xF0, 0x9F, 0x98]);
-    show_check(&[0xF5, 0x80, 0x80, 0x80]);
-    show_check(&[0xC3, 0x28]);
-}
-
-// The ends of the rows of the Unicode Standard's table 3-7.
-fn show_good() {
-    show_check(&[0xC2, 0x80]);
-    show_check(&[0xDF, 0xBF]);
-    show_check(&[0xE0, 0xA0, 0x80]);
-    show_check(&[0xED, 0x9F, 0xBF]);
-    show_check(&[0xEE, 0x80, 0x80]);
-    show_check(&[0xEF, 0xBF, 0xBF]);
-    show_check(&[0xF0, 0x90, 0x80, 0x80]);
-    show_check(&[0xF4, 0x8F, 0xBF, 0xBF]);
-    show_check(&[0x00]);
-    show_check(&[0x7F]);
+    let mut i: usize = 0;
+    while i < 12 {
+        show_text(UNITS[i]);
+        i += 1;
+    }
 }
 
 fn main() {
     show_texts();
-    show_rfc();
-    show_bad();
-    show_good();
+    let mut i: usize = 0;
+    while i < 28 {
+        show_check(BYTES[i]);
+        i += 1;
+    }
 }

@@ -1,30 +1,31 @@
 -- Assumes nothing.
 use Prim.Native.Nat.{_≤_, _-_}
+use native.Mathlib.Omega.{arith}
 use lib.ListN.{length}
 use borrow.Author.Needs.{needs}
 use Rattle.texts.proofs.show_bytes.Statement.{statement}
 use Rattle.texts.proofs.show_bytes.Tie as tie
 
 abbrev Inv-loop : tie.InvT-loop
-Inv-loop t i₀ t3 i = i ≤ length t
+Inv-loop t i₀ t4 i = i ≤ length t
 
 abbrev μ-loop : tie.MeasureT-loop
-μ-loop t i₀ t3 i = length t - i
+μ-loop t i₀ t4 i = length t - i
 
 loop-holds : tie.Need-loop-holds Inv-loop μ-loop
 loop-holds c = search needs
+
+shared-slice-read-b : tie.Need-shared-slice-read-b Inv-loop μ-loop
+shared-slice-read-b c = search needs
+
+cast-b : tie.Need-cast-b Inv-loop μ-loop
+cast-b c = omega (arith, c .shared-slice-known2 .given (c .before .before .loop .i))
 
 slice-aggregate-write-all : tie.Need-slice-aggregate-write-all Inv-loop μ-loop
 slice-aggregate-write-all c = search needs
 
 write-all-requires : tie.Need-write-all-requires Inv-loop μ-loop
 write-all-requires c κs = search needs
-
-shared-slice-read-wide : tie.Need-shared-slice-read-wide Inv-loop μ-loop
-shared-slice-read-wide c = search needs
-
-wide-requires : tie.Need-wide-requires Inv-loop μ-loop
-wide-requires c κs = search needs
 
 print-hex-requires : tie.Need-print-hex-requires Inv-loop μ-loop
 print-hex-requires c κs = search needs
@@ -48,10 +49,10 @@ show-bytes-spec =
     Inv-loop
     μ-loop
     loop-holds
+    shared-slice-read-b
+    cast-b
     slice-aggregate-write-all
     write-all-requires
-    shared-slice-read-wide
-    wide-requires
     print-hex-requires
     add-i
     loop-less

@@ -1,27 +1,37 @@
 -- Assumes nothing.
 use Prim.Native.Nat.{_≤_, _-_}
+use native.Mathlib.Omega.{arith}
 use lib.ListN.{length}
 use borrow.Author.Needs.{needs}
 use Rattle.texts.proofs.show_units.Statement.{statement}
 use Rattle.texts.proofs.show_units.Tie as tie
 
 abbrev Inv-loop : tie.InvT-loop
-Inv-loop units i₀ i = i ≤ length units
+Inv-loop units i₀ t4 i = i ≤ length units
 
 abbrev μ-loop : tie.MeasureT-loop
-μ-loop units i₀ i = length units - i
+μ-loop units i₀ t4 i = length units - i
 
 loop-holds : tie.Need-loop-holds Inv-loop μ-loop
 loop-holds c = search needs
 
-mul-show-unit : tie.Need-mul-show-unit Inv-loop μ-loop
-mul-show-unit c = search needs
+mul-u : tie.Need-mul-u Inv-loop μ-loop
+mul-u c = search needs
 
-shared-slice-read-show-unit : tie.Need-shared-slice-read-show-unit Inv-loop μ-loop
-shared-slice-read-show-unit c = search needs
+shared-slice-read-u : tie.Need-shared-slice-read-u Inv-loop μ-loop
+shared-slice-read-u c = search needs
 
-show-unit-requires : tie.Need-show-unit-requires Inv-loop μ-loop
-show-unit-requires c κs = search needs
+cast-u : tie.Need-cast-u Inv-loop μ-loop
+cast-u c = omega (arith, c .shared-slice-known2 .given (c .before .before .loop .i))
+
+print-hex-requires : tie.Need-print-hex-requires Inv-loop μ-loop
+print-hex-requires c κs = search needs
+
+slice-aggregate-write-all : tie.Need-slice-aggregate-write-all Inv-loop μ-loop
+slice-aggregate-write-all c = search needs
+
+write-all-requires : tie.Need-write-all-requires Inv-loop μ-loop
+write-all-requires c κs = search needs
 
 add-i : tie.Need-add-i Inv-loop μ-loop
 add-i c = search needs
@@ -42,9 +52,12 @@ show-units-spec =
     Inv-loop
     μ-loop
     loop-holds
-    mul-show-unit
-    shared-slice-read-show-unit
-    show-unit-requires
+    mul-u
+    shared-slice-read-u
+    cast-u
+    print-hex-requires
+    slice-aggregate-write-all
+    write-all-requires
     add-i
     loop-less
     loop-again

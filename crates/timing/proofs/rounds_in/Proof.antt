@@ -6,7 +6,7 @@ use Rattle.timing.proofs.rounds_in.Statement.{statement}
 use Rattle.timing.proofs.rounds_in.Tie as tie
 
 abbrev Inv-loop : tie.InvT-loop
-Inv-loop t n₀ i₀ n i = (i ≤ length t) × (n < 10000000000)
+Inv-loop t n₀ i₀ n i = (i ≤ length t) × (n < 10000000010)
 
 abbrev μ-loop : tie.MeasureT-loop
 μ-loop t n₀ i₀ n i = length t - i
@@ -20,11 +20,11 @@ loop-holds c = search needs
 mul-n : tie.Need-mul-n Inv-loop μ-loop
 mul-n c = search needs
 
-shared-slice-read-digit : tie.Need-shared-slice-read-digit Inv-loop μ-loop
-shared-slice-read-digit c = search needs
+shared-slice-read-n : tie.Need-shared-slice-read-n Inv-loop μ-loop
+shared-slice-read-n c = search needs
 
-digit-requires : tie.Need-digit-requires Inv-loop μ-loop
-digit-requires c κs = search needs
+cast-n : tie.Need-cast-n Inv-loop μ-loop
+cast-n c = search needs
 
 add-n : tie.Need-add-n Inv-loop μ-loop
 add-n c = search needs
@@ -50,8 +50,8 @@ rounds-in-spec =
     returns
     loop-holds
     mul-n
-    shared-slice-read-digit
-    digit-requires
+    shared-slice-read-n
+    cast-n
     add-n
     add-i
     loop-less

@@ -1,23 +1,26 @@
 -- Assumes nothing.
 use Prim.Native.Nat.{_≤_, _-_}
 use borrow.Author.Needs.{needs}
-use Rattle.timing.proofs.convert.Statement.{statement}
-use Rattle.timing.proofs.convert.Tie as tie
+use Rattle.texts.proofs.show_texts.Statement.{statement}
+use Rattle.texts.proofs.show_texts.Tie as tie
 
 abbrev Inv-loop : tie.InvT-loop
-Inv-loop rounds texts₀ i₀ texts i = (texts ≤ i) × (i ≤ rounds)
+Inv-loop i₀ i = i ≤ 12
 
 abbrev μ-loop : tie.MeasureT-loop
-μ-loop rounds texts₀ i₀ texts i = rounds - i
+μ-loop i₀ i = 12 - i
 
 loop-holds : tie.Need-loop-holds Inv-loop μ-loop
 loop-holds c = search needs
 
-convert-one-requires : tie.Need-convert-one-requires Inv-loop μ-loop
-convert-one-requires c κs = search needs
+mul-show-text : tie.Need-mul-show-text Inv-loop μ-loop
+mul-show-text c = search needs
 
-add-texts : tie.Need-add-texts Inv-loop μ-loop
-add-texts c = search needs
+array-copy-out-show-text : tie.Need-array-copy-out-show-text Inv-loop μ-loop
+array-copy-out-show-text c = search needs
+
+show-text-requires : tie.Need-show-text-requires Inv-loop μ-loop
+show-text-requires c κs = search needs
 
 add-i : tie.Need-add-i Inv-loop μ-loop
 add-i c = search needs
@@ -31,15 +34,16 @@ loop-again c = search needs
 returns : tie.Need-returns Inv-loop μ-loop
 returns c = search needs
 
-pub convert-spec : {M : Type 1} → statement M
-convert-spec =
+pub show-texts-spec : {M : Type 1} → statement M
+show-texts-spec =
     tie.close
     (tie.spec
     Inv-loop
     μ-loop
     loop-holds
-    convert-one-requires
-    add-texts
+    mul-show-text
+    array-copy-out-show-text
+    show-text-requires
     add-i
     loop-less
     loop-again

@@ -3,23 +3,23 @@ use Prim.Native.Nat.{_≤_, _-_}
 use lib.ListN.{length}
 use mathlib.Core.Path.{_≡_}
 use borrow.Author.Needs.{needs}
-use Rattle.timing.proofs.fill.Statement.{statement}
-use Rattle.timing.proofs.fill.Tie as tie
+use Rattle.timing.proofs.repeat.Statement.{statement}
+use Rattle.timing.proofs.repeat.Tie as tie
 
 abbrev Inv-loop : tie.InvT-loop
-Inv-loop bytes₀ rounds zeros₀ i₀ bytes zeros i = (zeros ≤ i) × (i ≤ rounds) × (length bytes ≡ length bytes₀)
+Inv-loop what bytes₀ rounds count₀ i₀ bytes count i = (count ≤ i) × (i ≤ rounds) × (length bytes ≡ length bytes₀)
 
 abbrev μ-loop : tie.MeasureT-loop
-μ-loop bytes₀ rounds zeros₀ i₀ bytes zeros i = rounds - i
+μ-loop what bytes₀ rounds count₀ i₀ bytes count i = rounds - i
 
 loop-holds : tie.Need-loop-holds Inv-loop μ-loop
 loop-holds c = search needs
 
-fill-one-requires : tie.Need-fill-one-requires Inv-loop μ-loop
-fill-one-requires c κs = search needs
+one-requires : tie.Need-one-requires Inv-loop μ-loop
+one-requires c κs = search needs
 
-add-zeros : tie.Need-add-zeros Inv-loop μ-loop
-add-zeros c = search needs
+add-count : tie.Need-add-count Inv-loop μ-loop
+add-count c = search needs
 
 add-i : tie.Need-add-i Inv-loop μ-loop
 add-i c = search needs
@@ -36,15 +36,15 @@ same-length c = search needs
 returns : tie.Need-returns Inv-loop μ-loop
 returns c = search needs
 
-pub fill-spec : {M : Type 1} → statement M
-fill-spec =
+pub repeat-spec : {M : Type 1} → statement M
+repeat-spec =
     tie.close
     (tie.spec
     Inv-loop
     μ-loop
     loop-holds
-    fill-one-requires
-    add-zeros
+    one-requires
+    add-count
     add-i
     loop-less
     loop-again
