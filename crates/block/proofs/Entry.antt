@@ -60,21 +60,21 @@ module _ (p : ℕ → Bool) (lo : ℕ) (l : List ℕ) where
             no-room d =
                 rw (le-ltb (length l) 16 h, le-ltb (keyOf l) lo (rw ke at a), pass ∙ q, fields ∙ g, len ∙ m, lt-ltb (length l - 16) (lenOf l) d)
 
-            module _ (d : lenOf l ≤ length l - 16) (w : Bool) (we : w ≡ wellFormed (take (16 + lenOf l - 16) (drop 16 l))) where
+            module _ (d : lenOf l ≤ length l - 16) (w : Bool) (t : List ℕ) (we : w ≡ wellFormed t) (te : t ≡ take (16 + lenOf l - 16) (drop 16 l)) where
               same : wellFormed (textOf l) ≡ w
               same =
                   let k : 16 + lenOf l - 16 ≡ lenOf l = omega arith in
-                  sym (we ∙ ap (λ (n : ℕ). wellFormed (take n (drop 16 l))) k)
+                  sym (we ∙ ap wellFormed (te ∙ ap (λ (n : ℕ). take n (drop 16 l)) k))
 
               pub no-text : w ≡ false → Stride p lo l 0
               unfolding entryOk
-              no-text t =
-                  rw (le-ltb (length l) 16 h, le-ltb (keyOf l) lo (rw ke at a), pass ∙ q, fields ∙ g, len ∙ m, le-ltb (length l - 16) (lenOf l) d, same ∙ t)
+              no-text o =
+                  rw (le-ltb (length l) 16 h, le-ltb (keyOf l) lo (rw ke at a), pass ∙ q, fields ∙ g, len ∙ m, le-ltb (length l - 16) (lenOf l) d, same ∙ o)
 
               pub entered : w ≡ true → Stride p lo l (16 + lenOf l)
               unfolding entryOk
-              entered t =
-                  rw (le-ltb (length l) 16 h, le-ltb (keyOf l) lo (rw ke at a), pass ∙ q, fields ∙ g, len ∙ m, le-ltb (length l - 16) (lenOf l) d, same ∙ t)
+              entered o =
+                  rw (le-ltb (length l) 16 h, le-ltb (keyOf l) lo (rw ke at a), pass ∙ q, fields ∙ g, len ∙ m, le-ltb (length l - 16) (lenOf l) d, same ∙ o)
 
 -- An entry that is there.
 pub record There (p : ℕ → Bool) (lo : ℕ) (l : List ℕ) : Type 0 where

@@ -86,6 +86,12 @@ module _ (b : Bool) (x : List ℕ) (at lo e : ℕ) (h : at ≤ length x) where
         let v : usedOf m (drop at x) ≡ e + usedOf (m - 1) (drop (at + e) x) = u ∙ cc (w, s .wide) in
         record { room = f .1; low = rw ke (f .2); ok = rw (k, ← w) o; used = omega arith }
 
+-- the rest is walked from where the code goes on
+pub turned-on :
+    (b : Bool) (x : List ℕ) (at lo e m key next : ℕ) → Turned b x at lo e m key → next ≡ key + 1 →
+    listOk (listKeyOk b) m lo (drop at x) ≡ listOk (listKeyOk b) (m - 1) next (drop (at + e) x)
+turned-on b x at lo e m key next t h = rw h (t .ok)
+
 pub turned-end :
     (p : ℕ → Bool) (n m s at lo : ℕ) (l k : List ℕ) → m ≤ 0 → listOk p n 0 l ≡ listOk p m lo k →
     s + usedOf n l ≡ at + usedOf m k → at ≡ pick (listOk p n 0 l) (s + usedOf n l) 0
@@ -132,29 +138,29 @@ module _ (p : ℕ → Bool) (x : List ℕ) (at n e : ℕ) (h : at ≤ length x) 
       go true k = let y : _≡_ {A = ℕ} 0 1 = omega arith in cc
       go false k = refl
 
--- list j of a block
-module _ (x : List ℕ) (j at n size e : ℕ) (h : at ≤ length x) (pos : 0 < at) (ee : e ≡ pick (listOk (listKeyOk (byVkey j)) n 0 (drop at x)) (at + usedOf n (drop at x)) 0) (ae : at ≡ startOf x j) (ne : n ≡ countAt x j) (se : size ≡ sizeAt x j) where
-  one : oneOk x j ≡ pick (listOk (listKeyOk (byVkey j)) n 0 (drop at x)) (eqb (usedOf n (drop at x)) size) false
+-- list j of a block, keyed as the code asked
+module _ (x : List ℕ) (j at n size e : ℕ) (k : Bool) (h : at ≤ length x) (pos : 0 < at) (ee : e ≡ pick (listOk (listKeyOk k) n 0 (drop at x)) (at + usedOf n (drop at x)) 0) (ke : k ≡ byVkey j) (ae : at ≡ startOf x j) (ne : n ≡ countAt x j) (se : size ≡ sizeAt x j) where
+  one : oneOk x j ≡ pick (listOk (listKeyOk k) n 0 (drop at x)) (eqb (usedOf n (drop at x)) size) false
   unfolding oneOk
-  one = rw (ae, ne, se)
+  one = rw (ke, ae, ne, se)
 
   pub one-bad : e ≡ 0 → oneOk x j ≡ false
-  one-bad z = one ∙ rw (bad (listKeyOk (byVkey j)) x at n e h pos ee z)
+  one-bad z = one ∙ rw (bad (listKeyOk k) x at n e h pos ee z)
 
   module _ (nz : e ≡ 0 → ⊥) where
-    t : Ended (listKeyOk (byVkey j)) x at n e
-    t = ended (listKeyOk (byVkey j)) x at n e h pos ee nz
+    t : Ended (listKeyOk k) x at n e
+    t = ended (listKeyOk k) x at n e h pos ee nz
 
     pub one-size : (e - at ≡ size → ⊥) → oneOk x j ≡ false
     one-size d =
         let v = t .place in
-        let k : usedOf n (drop at x) ≡ size → ⊥ = λ u. d (omega arith) in
-        one ∙ rw (t .ok, ne-eqb (usedOf n (drop at x)) size k)
+        let u : usedOf n (drop at x) ≡ size → ⊥ = λ s. d (omega arith) in
+        one ∙ rw (t .ok, ne-eqb (usedOf n (drop at x)) size u)
 
     pub one-ok : e - at ≡ size → oneOk x j ≡ true
     one-ok d =
         let v = t .place in
-        let k : usedOf n (drop at x) ≡ size = omega arith in one ∙ rw (t .ok, eq-eqb (usedOf n (drop at x)) size k)
+        let u : usedOf n (drop at x) ≡ size = omega arith in one ∙ rw (t .ok, eq-eqb (usedOf n (drop at x)) size u)
 
     pub start-next : e - at ≡ size → e ≡ startOf x (j + 1)
     unfolding startOf

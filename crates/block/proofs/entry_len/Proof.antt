@@ -71,10 +71,10 @@ well-formed-requires : tie.Need-well-formed-requires
 well-formed-requires c κs = search needs
 
 returns-7 : tie.Need-returns-7
-returns-7 c = no-text _ _ _ (c .before .before .before .before .before .before .before .before .before .before .before .before .before .before .before .before .before .before .if1 .left) _ (c .before .before .before .before .before .before .before .before .before .before .before .before .before .before .before .before .before .get-u64 .ensures) (c .before .before .before .before .before .before .before .before .before .before .before .before .before .before .before .before .if2 .left) _ (c .before .before .before .before .before .before .before .before .before .before .before .before .before .before .before .list-key-ok .ensures) (not-false _ (c .before .before .before .before .before .before .before .before .before .before .before .before .before .before .if3 .left)) _ _ _ (c .before .before .before .before .before .before .before .before .before .before .before .before .before .get-u16 .ensures) (c .before .before .before .before .before .before .before .before .before .before .before .before .get-u32 .ensures) (c .before .before .before .before .before .before .before .before .before .before .key-ok .ensures) (not-false _ (c .before .before .before .before .before .before .before .before .before .if4 .left)) _ (c .before .before .before .before .before .before .before .len-ok .ensures) (not-false _ (c .before .before .before .before .before .before .if5 .left)) (rw (c .before .before .before .before .wide .ensures .0) at (c .before .before .before .if6 .left)) _ (rw (c .before .before .before .before .wide .ensures .0) at (c .before .well-formed .ensures)) (not-true _ (c .if7 .taken))
+returns-7 c = no-text _ _ _ (c .before .before .before .before .before .before .before .before .before .before .before .before .before .before .before .before .before .before .if1 .left) _ (c .before .before .before .before .before .before .before .before .before .before .before .before .before .before .before .before .before .get-u64 .ensures) (c .before .before .before .before .before .before .before .before .before .before .before .before .before .before .before .before .if2 .left) _ (c .before .before .before .before .before .before .before .before .before .before .before .before .before .before .before .list-key-ok .ensures) (not-false _ (c .before .before .before .before .before .before .before .before .before .before .before .before .before .before .if3 .left)) _ _ _ (c .before .before .before .before .before .before .before .before .before .before .before .before .before .get-u16 .ensures) (c .before .before .before .before .before .before .before .before .before .before .before .before .get-u32 .ensures) (c .before .before .before .before .before .before .before .before .before .before .key-ok .ensures) (not-false _ (c .before .before .before .before .before .before .before .before .before .if4 .left)) _ (c .before .before .before .before .before .before .before .len-ok .ensures) (not-false _ (c .before .before .before .before .before .before .if5 .left)) (rw (c .before .before .before .before .wide .ensures .0) at (c .before .before .before .if6 .left)) _ _ (c .before .well-formed .ensures) (rw (c .before .before .before .before .wide .ensures .0)) (not-true _ (c .if7 .taken))
 
 returns-8 : tie.Need-returns-8
-returns-8 c = rw (c .before .before .before .before .wide .ensures .0) (entered _ _ _ (c .before .before .before .before .before .before .before .before .before .before .before .before .before .before .before .before .before .before .if1 .left) _ (c .before .before .before .before .before .before .before .before .before .before .before .before .before .before .before .before .before .get-u64 .ensures) (c .before .before .before .before .before .before .before .before .before .before .before .before .before .before .before .before .if2 .left) _ (c .before .before .before .before .before .before .before .before .before .before .before .before .before .before .before .list-key-ok .ensures) (not-false _ (c .before .before .before .before .before .before .before .before .before .before .before .before .before .before .if3 .left)) _ _ _ (c .before .before .before .before .before .before .before .before .before .before .before .before .before .get-u16 .ensures) (c .before .before .before .before .before .before .before .before .before .before .before .before .get-u32 .ensures) (c .before .before .before .before .before .before .before .before .before .before .key-ok .ensures) (not-false _ (c .before .before .before .before .before .before .before .before .before .if4 .left)) _ (c .before .before .before .before .before .before .before .len-ok .ensures) (not-false _ (c .before .before .before .before .before .before .if5 .left)) (rw (c .before .before .before .before .wide .ensures .0) at (c .before .before .before .if6 .left)) _ (rw (c .before .before .before .before .wide .ensures .0) at (c .before .well-formed .ensures)) (not-false _ (c .if7 .left)))
+returns-8 c = rw (c .before .before .before .before .wide .ensures .0) (entered _ _ _ (c .before .before .before .before .before .before .before .before .before .before .before .before .before .before .before .before .before .before .if1 .left) _ (c .before .before .before .before .before .before .before .before .before .before .before .before .before .before .before .before .before .get-u64 .ensures) (c .before .before .before .before .before .before .before .before .before .before .before .before .before .before .before .before .if2 .left) _ (c .before .before .before .before .before .before .before .before .before .before .before .before .before .before .before .list-key-ok .ensures) (not-false _ (c .before .before .before .before .before .before .before .before .before .before .before .before .before .before .if3 .left)) _ _ _ (c .before .before .before .before .before .before .before .before .before .before .before .before .before .get-u16 .ensures) (c .before .before .before .before .before .before .before .before .before .before .before .before .get-u32 .ensures) (c .before .before .before .before .before .before .before .before .before .before .key-ok .ensures) (not-false _ (c .before .before .before .before .before .before .before .before .before .if4 .left)) _ (c .before .before .before .before .before .before .before .len-ok .ensures) (not-false _ (c .before .before .before .before .before .before .if5 .left)) (rw (c .before .before .before .before .wide .ensures .0) at (c .before .before .before .if6 .left)) _ _ (c .before .well-formed .ensures) (rw (c .before .before .before .before .wide .ensures .0)) (not-false _ (c .if7 .left)))
 
 pub entry-len-spec : {M : Type 1} → statement M
 entry-len-spec =
