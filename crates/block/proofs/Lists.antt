@@ -88,9 +88,9 @@ module _ (b : Bool) (x : List ℕ) (at lo e : ℕ) (h : at ≤ length x) where
 
 -- the rest is walked from where the code goes on
 pub turned-on :
-    (b : Bool) (x : List ℕ) (at lo e m key next : ℕ) → Turned b x at lo e m key → next ≡ key + 1 →
-    listOk (listKeyOk b) m lo (drop at x) ≡ listOk (listKeyOk b) (m - 1) next (drop (at + e) x)
-turned-on b x at lo e m key next t h = rw h (t .ok)
+    (b : Bool) (x : List ℕ) (at lo e m key next : ℕ) (a : Bool) → a ≡ listOk (listKeyOk b) m lo (drop at x) →
+    Turned b x at lo e m key → next ≡ key + 1 → a ≡ listOk (listKeyOk b) (m - 1) next (drop (at + e) x)
+turned-on b x at lo e m key next a q t h = rw h (q ∙ t .ok)
 
 pub turned-end :
     (p : ℕ → Bool) (n m s at lo : ℕ) (l k : List ℕ) → m ≤ 0 → listOk p n 0 l ≡ listOk p m lo k →
@@ -138,18 +138,18 @@ module _ (p : ℕ → Bool) (x : List ℕ) (at n e : ℕ) (h : at ≤ length x) 
       go true k = let y : _≡_ {A = ℕ} 0 1 = omega arith in cc
       go false k = refl
 
--- list j of a block, keyed as the code asked
-module _ (x : List ℕ) (j at n size e : ℕ) (k : Bool) (h : at ≤ length x) (pos : 0 < at) (ee : e ≡ pick (listOk (listKeyOk k) n 0 (drop at x)) (at + usedOf n (drop at x)) 0) (ke : k ≡ byVkey j) (ae : at ≡ startOf x j) (ne : n ≡ countAt x j) (se : size ≡ sizeAt x j) where
-  one : oneOk x j ≡ pick (listOk (listKeyOk k) n 0 (drop at x)) (eqb (usedOf n (drop at x)) size) false
+-- list j of a block, its keys tested by p
+module _ (x : List ℕ) (j at n size e : ℕ) (p : ℕ → Bool) (h : at ≤ length x) (pos : 0 < at) (ee : e ≡ pick (listOk p n 0 (drop at x)) (at + usedOf n (drop at x)) 0) (pe : p ≡ listKeyOk (byVkey j)) (ae : at ≡ startOf x j) (ne : n ≡ countAt x j) (se : size ≡ sizeAt x j) where
+  one : oneOk x j ≡ pick (listOk p n 0 (drop at x)) (eqb (usedOf n (drop at x)) size) false
   unfolding oneOk
-  one = rw (ke, ae, ne, se)
+  one = rw (pe, ae, ne, se)
 
   pub one-bad : e ≡ 0 → oneOk x j ≡ false
-  one-bad z = one ∙ rw (bad (listKeyOk k) x at n e h pos ee z)
+  one-bad z = one ∙ rw (bad p x at n e h pos ee z)
 
   module _ (nz : e ≡ 0 → ⊥) where
-    t : Ended (listKeyOk k) x at n e
-    t = ended (listKeyOk k) x at n e h pos ee nz
+    t : Ended p x at n e
+    t = ended p x at n e h pos ee nz
 
     pub one-size : (e - at ≡ size → ⊥) → oneOk x j ≡ false
     one-size d =

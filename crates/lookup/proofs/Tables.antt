@@ -5,17 +5,12 @@ use mathlib.Core.Bool.{true}
 use mathlib.Core.List.{List}
 use Prim.Native.Nat.{ℕ, _+_, _-_, _≤_, _<_}
 use native.Mathlib.Omega.{arith}
-use lib.Dec.{eqb}
-use lib.ListN.{length, getD}
+use lib.ListN.{length}
 use borrow.Author.Tests.{lt-ltb, le-ltb, eq-eqb, ne-eqb}
 use Rattle.block.specs.Block.{cellAt, mapsOf, blockOk, HEAD}
 use Rattle.block.proofs.Passed.{passed}
-use Rattle.block.proofs.Read.{flag-read, non-char-at, non-char-past, scan-at, scan-past, vkey-at}
+use Rattle.block.proofs.Read.{non-char-at, non-char-past, scan-at, scan-past, vkey-at}
 use Rattle.lookup.specs.Layout.{nonCharKey, scanCodeFor, vkeyFor}
-
--- the flag, from a byte and a number that are its own
-pub flag-is : (x : List ℕ) (v k : ℕ) → v ≡ getD x 0 0 → k ≡ 1 → eqb v k ≡ mapsOf x .hasAltGraph
-flag-is x v k e f = rw (e, f) (sym (flag-read x))
 
 -- the header of a block that passed is there
 pub headed : (x : List ℕ) → blockOk x ≡ true → HEAD ≤ length x

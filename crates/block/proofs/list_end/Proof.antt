@@ -57,7 +57,7 @@ loop-less : tie.Need-loop-less Inv-loop μ-loop
 loop-less c = omega arith
 
 loop-again : tie.Need-loop-again Inv-loop μ-loop
-loop-again c = let f = turn (c .before .before .before .before .before .before .before .before .args .by-vkey) (c .before .before .before .before .before .before .before .before .args .block .now) (c .before .before .before .before .before .before .loop .at) (c .before .before .before .before .before .before .loop .lo) _ (c .before .before .before .before .before .before .loop .inv .0) (c .before .before .before .entry-len .ensures) _ _ (c .before .before .before .before .before .loop-test .taken) (c .before .before .if1 .left) (c .get-u64 .ensures) in (f .room, omega arith, c .before .before .before .before .before .before .loop .inv .2 ∙ turned-on _ _ _ _ _ _ _ _ f refl, c .before .before .before .before .before .before .loop .inv .3 ∙ f .used)
+loop-again c = let f = turn (c .before .before .before .before .before .before .before .before .args .by-vkey) (c .before .before .before .before .before .before .before .before .args .block .now) (c .before .before .before .before .before .before .loop .at) (c .before .before .before .before .before .before .loop .lo) _ (c .before .before .before .before .before .before .loop .inv .0) (c .before .before .before .entry-len .ensures) _ _ (c .before .before .before .before .before .loop-test .taken) (c .before .before .if1 .left) (c .get-u64 .ensures) in (f .room, omega arith, turned-on _ _ _ _ _ _ _ _ _ (c .before .before .before .before .before .before .loop .inv .2) f (omega arith), c .before .before .before .before .before .before .loop .inv .3 ∙ f .used)
 
 returns-2 : tie.Need-returns-2 Inv-loop μ-loop
 returns-2 c = turned-end _ _ _ _ _ _ _ _ (c .loop-test .left) (c .before .loop .inv .2) (c .before .loop .inv .3)

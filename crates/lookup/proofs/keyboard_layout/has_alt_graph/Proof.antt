@@ -1,6 +1,6 @@
-use Rattle.lookup.proofs.Tables.{headed, flag-is}
+use Rattle.lookup.proofs.Tables.{headed}
 use native.Mathlib.Omega.{arith}
-use mathlib.Core.Path.{refl}
+use Rattle.block.proofs.Read.{flag-read}
 use Rattle.lookup.proofs.keyboard_layout.has_alt_graph.Statement.{statement}
 use Rattle.lookup.proofs.keyboard_layout.has_alt_graph.Tie as tie
 
@@ -8,7 +8,7 @@ shared-slice-read-result : tie.Need-shared-slice-read-result
 shared-slice-read-result c = let h = headed (c .before .args .block .now) (c .before .pre) in omega arith
 
 returns : tie.Need-returns
-returns c = flag-is (c .before .args .block .now) _ _ refl refl
+returns c = rw (flag-read (c .before .args .block .now))
 
 pub has-alt-graph-spec : {M : Type 1} → statement M
 has-alt-graph-spec = tie.close (tie.spec shared-slice-read-result returns)
