@@ -138,29 +138,29 @@ module _ (p : ℕ → Bool) (x : List ℕ) (at n e : ℕ) (h : at ≤ length x) 
       go true k = let y : _≡_ {A = ℕ} 0 1 = omega arith in cc
       go false k = refl
 
--- list j of a block, its keys tested by p
-module _ (x : List ℕ) (j at n size e : ℕ) (p : ℕ → Bool) (h : at ≤ length x) (pos : 0 < at) (ee : e ≡ pick (listOk p n 0 (drop at x)) (at + usedOf n (drop at x)) 0) (pe : p ≡ listKeyOk (byVkey j)) (ae : at ≡ startOf x j) (ne : n ≡ countAt x j) (se : size ≡ sizeAt x j) where
-  one : oneOk x j ≡ pick (listOk p n 0 (drop at x)) (eqb (usedOf n (drop at x)) size) false
+-- list j of a block
+module _ (x : List ℕ) (j at n size e : ℕ) (h : at ≤ length x) (pos : 0 < at) (ee : e ≡ pick (listOk (listKeyOk (byVkey j)) n 0 (drop at x)) (at + usedOf n (drop at x)) 0) (ae : at ≡ startOf x j) (ne : n ≡ countAt x j) (se : size ≡ sizeAt x j) where
+  one : oneOk x j ≡ pick (listOk (listKeyOk (byVkey j)) n 0 (drop at x)) (eqb (usedOf n (drop at x)) size) false
   unfolding oneOk
-  one = rw (pe, ae, ne, se)
+  one = rw (ae, ne, se)
 
   pub one-bad : e ≡ 0 → oneOk x j ≡ false
-  one-bad z = one ∙ rw (bad p x at n e h pos ee z)
+  one-bad z = one ∙ rw (bad (listKeyOk (byVkey j)) x at n e h pos ee z)
 
   module _ (nz : e ≡ 0 → ⊥) where
-    t : Ended p x at n e
-    t = ended p x at n e h pos ee nz
+    t : Ended (listKeyOk (byVkey j)) x at n e
+    t = ended (listKeyOk (byVkey j)) x at n e h pos ee nz
 
     pub one-size : (e - at ≡ size → ⊥) → oneOk x j ≡ false
     one-size d =
         let v = t .place in
-        let u : usedOf n (drop at x) ≡ size → ⊥ = λ s. d (omega arith) in
-        one ∙ rw (t .ok, ne-eqb (usedOf n (drop at x)) size u)
+        let k : usedOf n (drop at x) ≡ size → ⊥ = λ u. d (omega arith) in
+        one ∙ rw (t .ok, ne-eqb (usedOf n (drop at x)) size k)
 
     pub one-ok : e - at ≡ size → oneOk x j ≡ true
     one-ok d =
         let v = t .place in
-        let u : usedOf n (drop at x) ≡ size = omega arith in one ∙ rw (t .ok, eq-eqb (usedOf n (drop at x)) size u)
+        let k : usedOf n (drop at x) ≡ size = omega arith in one ∙ rw (t .ok, eq-eqb (usedOf n (drop at x)) size k)
 
     pub start-next : e - at ≡ size → e ≡ startOf x (j + 1)
     unfolding startOf

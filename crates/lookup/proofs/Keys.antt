@@ -1,14 +1,15 @@
 -- The four ways that a key is found, in the order in which get_key asks.
 -- Assumes nothing.
-use mathlib.Core.Path.{_≡_, sym, ap, _∙_}
+use mathlib.Core.Path.{_≡_, refl, sym, ap, _∙_}
 use mathlib.Core.Bool.{Bool, true, false}
 use mathlib.Core.List.{List}
 use mathlib.Core.Option.{some, none}
 use Prim.Native.Nat.{ℕ, _+_, _-_, _≤_, _<_}
 use native.Mathlib.Omega.{arith}
+use lib.Dec.{eqb}
 use lib.ListN.{length, take, drop, length-drop, drop-of-length-le}
 use lib.Seq.{take-all, take-nil}
-use borrow.Author.Tests.{ne-eqb}
+use borrow.Author.Tests.{eq-eqb, ne-eqb, eqb-true, eqb-false}
 use Rattle.area.specs.Pick.{pick}
 use Rattle.keys.specs.Text.{FullKey, named, unidentified, full}
 use Rattle.keys.specs.declared.Key.the-variants.{Named, Unidentified}
@@ -22,7 +23,7 @@ use Rattle.block.proofs.Find.{Looked, looked-in, value-at}
 use Rattle.block.proofs.Read.{num-lock-list, code-list}
 use Rattle.keystroke.specs.Modifiers.{bitsOf}
 use Rattle.keystroke.proofs.Sets.{bits-below}
-use Rattle.lookup.specs.Layout.{nonCharKey, getKey, partOf, keyIn, foundAt}
+use Rattle.lookup.specs.Layout.{nonCharKey, getKey, partOf, keyIn, foundAt, placeFor}
 use Rattle.lookup.specs.declared.keyboard_layout.LayoutKey.{LayoutKey}
 use Rattle.keystroke.specs.declared.WindowsModifiers.{WindowsModifiers}
 
@@ -32,14 +33,13 @@ unfolding foundAt
 found-value x p = sym (value-at p x)
 
 -- a key without text
-named-in : (x : List ℕ) (n : ℕ) (r : LayoutKey) → r .key ≡ Named n → keyIn x r ≡ named n
+named-in : (n : ℕ) (t : List ℕ) → full (Named n) t ≡ named n
 unfolding full
-named-in x n r e = rw e
+named-in n t = refl
 
-unidentified-in :
-    (x : List ℕ) (n : ℕ) (r : LayoutKey) → r .key ≡ Unidentified (Windows n) → keyIn x r ≡ unidentified (Windows n)
+unidentified-in : (n : ℕ) (t : List ℕ) → full (Unidentified (Windows n)) t ≡ unidentified (Windows n)
 unfolding full
-unidentified-in x n r e = rw e
+unidentified-in n t = refl
 
 -- what a search by place says of the map
 module _ (x : List ℕ) (j key p : ℕ) (b : Block x) (h : j < LISTS) (pe : p ≡ placeIn x j key) where
@@ -54,63 +54,104 @@ module _ (x : List ℕ) (j key p : ℕ) (b : Block x) (h : j < LISTS) (pe : p �
   found-none : p ≡ 0 → find key (listAt x j) ≡ none
   found-none z = looked .nothing z
 
+-- ---- where an entry stands
+
+module _ (x : List ℕ) (s : ℕ) (on : Bool) (vkey key j p : ℕ) (je : j ≡ pick on 0 1) (pe : p ≡ placeIn x j vkey) where
+  lock-place : p ≡ placeIn x (pick on 0 1) vkey
+  lock-place = pe ∙ ap (λ (i : ℕ). placeIn x i vkey) je
+
+  pub place-lock : (p ≡ 0 → ⊥) → p ≡ placeFor x s on vkey key
+  place-lock nz = rw (← lock-place, ne-eqb p 0 nz)
+
+  pub place-code :
+      p ≡ 0 → (i k q : ℕ) → i ≡ s → k ≡ key → q ≡ placeIn x (2 + i) k → q ≡ placeFor x s on vkey key
+  place-code z i k q ie ke qe = rw (← lock-place, eq-eqb p 0 z, ← ie, ← ke) qe
+
+-- a place that is the first of two that is not 0
+told :
+    {P : Type 0} (p q r : ℕ) → p ≡ pick (eqb q 0) r q → (q ≡ 0 → p ≡ r → P) → ((q ≡ 0 → ⊥) → p ≡ q → P) → P
+told {P} p q r e f g = go (eqb q 0) refl e
+  where
+    go : (b : Bool) → eqb q 0 ≡ b → p ≡ pick b r q → P
+    go true h k = f (eqb-true q 0 h) k
+    go false h k = g (eqb-false q 0 h) k
+
+-- ---- the answer
+
 module _ (x : List ℕ) (e : blockOk x ≡ true) (m : WindowsModifiers) (on : Bool) (vkey scancode : ℕ) (code : KeyCode) where
   abbrev answer : FullKey
   answer = getKey (mapsOf x) (bitsOf m) on vkey scancode code
 
+  -- the places in the Num Lock list and in the list of the modifiers
+  abbrev lock : ℕ
+  lock = placeIn x (pick on 0 1) vkey
+
+  abbrev coded : ℕ
+  coded = placeIn x (2 + bitsOf m) (codeKey code)
+
   b : Block x
   b = passed x e
 
-  module _ (n : ℕ) (ne : n ≡ nonCharKey (mapsOf x) vkey) where
-    pub by-name : (n ≡ 0 → ⊥) → (r : LayoutKey) → r .key ≡ Named n → keyIn x r ≡ answer
-    unfolding getKey
-    by-name nz r re = named-in x n r re ∙ rw (← ne, ne-eqb n 0 nz)
+  lock-below : pick on 0 1 < LISTS
+  lock-below = below on
+    where
+      below : (on : Bool) → pick on 0 1 < LISTS
+      below true = omega arith
+      below false = omega arith
 
-    module _ (z : n ≡ 0) (j p : ℕ) (je : j ≡ pick on 0 1) (pe : p ≡ placeIn x j vkey) where
+  code-below : 2 + bitsOf m < LISTS
+  code-below = let h = bits-below m in omega arith
+
+  lock-some : (lock ≡ 0 → ⊥) → (find vkey (listAt x (pick on 0 1)) ≡ some (keyIn x (foundAt x lock))) × (lock + 16 ≤ length x)
+  lock-some nz = found-some x (pick on 0 1) vkey lock b lock-below refl nz
+
+  code-some : (coded ≡ 0 → ⊥) → (find (codeKey code) (listAt x (2 + bitsOf m)) ≡ some (keyIn x (foundAt x coded))) × (coded + 16 ≤ length x)
+  code-some nz = found-some x (2 + bitsOf m) (codeKey code) coded b code-below refl nz
+
+  by-number : findCode code (listFor (bitsOf m) (mapsOf x .keys)) ≡ find (codeKey code) (listAt x (2 + bitsOf m))
+  by-number = code-list x b (bitsOf m) (bits-below m) code
+
+  module _ (n : ℕ) (ne : n ≡ nonCharKey (mapsOf x) vkey) where
+    pub by-name : (n ≡ 0 → ⊥) → (t : List ℕ) → full (Named n) t ≡ answer
+    unfolding getKey
+    by-name nz t = named-in n t ∙ rw (← ne, ne-eqb n 0 nz)
+
+    module _ (z : n ≡ 0) where
       none-named : nonCharKey (mapsOf x) vkey ≡ 0
       none-named = sym ne ∙ z
 
-      lock-list : pick on (mapsOf x .numLockOn) (mapsOf x .numLockOff) ≡ listAt x j
-      lock-list = rw je (num-lock-list x on)
-
-      lock-below : j < LISTS
-      lock-below = rw je (below on)
-        where
-          below : (on : Bool) → pick on 0 1 < LISTS
-          below true = omega arith
-          below false = omega arith
-
-      pub lock-room : (p ≡ 0 → ⊥) → (p + 16 ≤ length x) × (length x ≤ BLOCK-MOST)
-      lock-room nz = (found-some x j vkey p b lock-below pe nz .1, b .most)
-
-      pub by-lock : (p ≡ 0 → ⊥) → (r : LayoutKey) → r ≡ foundAt x p → keyIn x r ≡ answer
+      by-lock : (lock ≡ 0 → ⊥) → keyIn x (foundAt x lock) ≡ answer
       unfolding getKey
-      by-lock nz r re =
-          rw (re, none-named, lock-list, found-some x j vkey p b lock-below pe nz .0)
+      by-lock nz = rw (none-named, num-lock-list x on, lock-some nz .0)
 
-      module _ (y : p ≡ 0) (s k q : ℕ) (se : s ≡ bitsOf m) (ke : k ≡ codeKey code) (qe : q ≡ placeIn x (2 + s) k) where
+      module _ (y : lock ≡ 0) where
         missed : find vkey (pick on (mapsOf x .numLockOn) (mapsOf x .numLockOff)) ≡ none
-        missed = rw lock-list (found-none x j vkey p b lock-below pe y)
+        missed = rw (num-lock-list x on) (found-none x (pick on 0 1) vkey lock b lock-below refl y)
 
-        code-below : 2 + s < LISTS
-        code-below = let h = bits-below m in omega arith
-
-        by-number : findCode code (listFor (bitsOf m) (mapsOf x .keys)) ≡ find k (listAt x (2 + s))
-        by-number = rw (se, ke) (code-list x b (bitsOf m) (bits-below m) code)
-
-        pub code-room : (q ≡ 0 → ⊥) → (q + 16 ≤ length x) × (length x ≤ BLOCK-MOST)
-        code-room nz = (found-some x (2 + s) k q b code-below qe nz .1, b .most)
-
-        pub by-code : (q ≡ 0 → ⊥) → (r : LayoutKey) → r ≡ foundAt x q → keyIn x r ≡ answer
+        by-code : (coded ≡ 0 → ⊥) → keyIn x (foundAt x coded) ≡ answer
         unfolding getKey
-        by-code nz r re =
-            rw (re, none-named, missed, by-number, found-some x (2 + s) k q b code-below qe nz .0)
+        by-code nz = rw (none-named, missed, by-number, code-some nz .0)
 
-        pub by-none : q ≡ 0 → (r : LayoutKey) → r .key ≡ Unidentified (Windows scancode) → keyIn x r ≡ answer
+        by-neither : coded ≡ 0 → unidentified (Windows scancode) ≡ answer
         unfolding getKey
-        by-none w r re =
-            unidentified-in x scancode r re
-            ∙ rw (none-named, missed, by-number, found-none x (2 + s) k q b code-below qe w)
+        by-neither w =
+            rw (none-named, missed, by-number, found-none x (2 + bitsOf m) (codeKey code) coded b code-below refl w)
+
+      module _ (p : ℕ) (pe : p ≡ placeFor x (bitsOf m) on vkey (codeKey code)) where
+        pub list-room : (p ≡ 0 → ⊥) → (p + 16 ≤ length x) × (length x ≤ BLOCK-MOST)
+        list-room nz = (room, b .most)
+          where
+            room : p + 16 ≤ length x
+            room = told p lock coded pe (λ y k. rw k (code-some (λ w. nz (k ∙ w)) .1)) (λ l k. rw k (lock-some l .1))
+
+        pub by-list : (p ≡ 0 → ⊥) → (r : LayoutKey) → r ≡ foundAt x p → keyIn x r ≡ answer
+        by-list nz r re =
+            told p lock coded pe (λ y k. rw (re, k) (by-code y (λ w. nz (k ∙ w)))) (λ l k. rw (re, k) (by-lock l))
+
+        pub by-none : p ≡ 0 → (t : List ℕ) → full (Unidentified (Windows scancode)) t ≡ answer
+        by-none w t =
+            unidentified-in scancode t
+            ∙ told p lock coded pe (λ y k. by-neither y (sym k ∙ w)) (λ l k. absurd (l (sym k ∙ w)))
 
 -- a key's text, as the code takes it out of the block
 module _ (x : List ℕ) (k : LayoutKey) where

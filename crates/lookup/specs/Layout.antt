@@ -13,6 +13,7 @@ use Rattle.keys.specs.Text.{FullKey, named, unidentified, full}
 use Rattle.keys.specs.declared.NativeKeyCode.the-variants.{Windows}
 use Rattle.keycode.specs.declared.KeyCode.{KeyCode}
 use Rattle.block.specs.Maps.{Maps, find, findCode, listFor}
+use Rattle.block.specs.Block.{placeIn}
 use Rattle.keystroke.specs.LParam.{exScancode}
 use Rattle.keystroke.specs.declared.KeyLParam.{KeyLParam}
 use Rattle.lookup.specs.declared.keyboard_layout.LayoutKey.{LayoutKey}
@@ -70,3 +71,8 @@ foundAt block at =
       start = at + 16;
       len = getD block (at + 11) 0;
     }
+
+-- the place of a key's entry: in the Num Lock list, else in the list of the modifiers; 0 where neither has one
+abbrev pub placeFor : List ℕ → ℕ → Bool → ℕ → ℕ → ℕ
+placeFor block mods numLock vkey key =
+    pick (eqb (placeIn block (pick numLock 0 1) vkey) 0) (placeIn block (2 + mods) key) (placeIn block (pick numLock 0 1) vkey)

@@ -5,8 +5,9 @@ ghost use Prim.Native.Nat.{_+_, _≤_, _<_};
 ghost use lib.ListN.{length, drop};
 ghost use Rattle.area.specs.Pick.{pick};
 ghost use Rattle.block.specs.Block.{listKeyOk, listOk, cellAt, startOf, blockOk, mapsOf, placeOf, placeIn, HEAD, CELLS, LISTS, BLOCK-MOST};
+ghost use Rattle.keycode.specs.CodeKey.{codeKey};
 ghost use Rattle.keystroke.specs.Modifiers.{bitsOf};
-ghost use Rattle.lookup.specs.Layout.{nonCharKey, getKey, scanCodeFor, vkeyFor, partOf, keyIn, foundAt};
+ghost use Rattle.lookup.specs.Layout.{nonCharKey, getKey, scanCodeFor, vkeyFor, partOf, keyIn, foundAt, placeFor};
 use keycode::KeyCode;
 use keys::Key;
 use keys::NativeKeyCode;
@@ -144,21 +145,28 @@ fn found_at(block: &[u8], at: usize) -> LayoutKey
     }
 }
 
-// A key that holds no text.
-fn bare(key: Key) -> LayoutKey
-    ensures { λ r. ⌜ (r .key ≡ key) × (r .len ≡ 0) ⌝ }
-{
-    LayoutKey {
-        key,
-        start: 0,
-        len: 0,
-    }
-}
-
 fn num_lock_list(num_lock_on: bool) -> usize
     ensures { λ r. ⌜ (r ≡ pick «num_lock_on» 0 1) × (r < LISTS) ⌝ }
 {
     if num_lock_on { 0 } else { 1 }
+}
+
+// Where the entry of a key stands: in the Num Lock list, else in the list of the modifiers; 0 where neither has one.
+fn place_for(
+    block: &[u8],
+    mods: WindowsModifiers,
+    num_lock_on: bool,
+    vkey: u16,
+    code: KeyCode,
+) -> usize
+    requires { ⌜ blockOk (now block) ≡ true ⌝ }
+    ensures { λ r. ⌜ r ≡ placeFor (now (block .entry)) (bitsOf mods) «num_lock_on» vkey (codeKey code) ⌝ }
+{
+    let p = place_in(block, num_lock_list(num_lock_on), vkey as u64);
+    if p != 0 {
+        return p;
+    }
+    place_in(block, 2 + mods.bits(), keycode::code_key(code))
 }
 
 // tao's Layout::get_key. A virtual key above FF finds nothing in the first two lookups.
@@ -175,17 +183,21 @@ pub fn get_key(
 {
     let n = non_char_key(block, vkey);
     if n != 0 {
-        return bare(Key::Named(n));
+        return LayoutKey {
+            key: Key::Named(n),
+            start: 0,
+            len: 0,
+        };
     }
-    let p = place_in(block, num_lock_list(num_lock_on), vkey as u64);
+    let p = place_for(block, mods, num_lock_on, vkey, code);
     if p != 0 {
         return found_at(block, p);
     }
-    let q = place_in(block, 2 + mods.bits(), keycode::code_key(code));
-    if q != 0 {
-        return found_at(block, q);
+    LayoutKey {
+        key: Key::Unidentified(NativeKeyCode::Windows(scancode)),
+        start: 0,
+        len: 0,
     }
-    bare(Key::Unidentified(NativeKeyCode::Windows(scancode)))
 }
 
 // The text of a key, as the part of the block that holds it.

@@ -4,7 +4,7 @@ use mathlib.Core.Path.{_≡_, refl, _∙_}
 use lib.ListN.{length}
 use Rattle.area.specs.Walk.{every}
 use Rattle.area.proofs.Walk.{every-next, every-stop}
-use Rattle.block.specs.Block.{oneOk, startOf, LISTS, HEAD}
+use Rattle.block.specs.Block.{oneOk, startOf, listKeyOk, byVkey, LISTS, HEAD}
 use Rattle.block.proofs.Lists.{ended, one-bad, one-size, one-ok, start-next, lists-end, lists-stop}
 use Rattle.block.proofs.lists_ok.Statement.{statement}
 use Rattle.block.proofs.lists_ok.Tie as tie
@@ -44,13 +44,13 @@ list-end-requires : tie.Need-list-end-requires Inv-loop μ-loop
 list-end-requires c κs = omega arith
 
 returns : tie.Need-returns Inv-loop μ-loop
-returns c = lists-stop _ _ (c .before .before .before .before .before .loop .inv .4) (every-stop _ _ _ (c .before .before .before .before .loop-test .taken) (one-bad (c .before .before .before .before .before .before .before .args .block .now) (c .before .before .before .before .before .loop .j) (c .before .before .before .before .before .loop .at) _ _ _ _ (c .before .before .before .before .before .loop .inv .0) (omega arith) (c .before .list-end .ensures) refl (c .before .before .before .before .before .loop .inv .3) (c .before .before .before .get-u16 .ensures) (c .before .before .get-u162 .ensures) (c .if1 .taken)))
+returns c = lists-stop _ _ (c .before .before .before .before .before .loop .inv .4) (every-stop _ _ _ (c .before .before .before .before .loop-test .taken) (one-bad (c .before .before .before .before .before .before .before .args .block .now) (c .before .before .before .before .before .loop .j) (c .before .before .before .before .before .loop .at) _ _ _ (c .before .before .before .before .before .loop .inv .0) (omega arith) (c .before .list-end .ensures) (c .before .before .before .before .before .loop .inv .3) (c .before .before .before .get-u16 .ensures) (c .before .before .get-u162 .ensures) (c .if1 .taken)))
 
 sub-if2 : tie.Need-sub-if2 Inv-loop μ-loop
-sub-if2 c = let t = ended _ (c .before .before .before .before .before .before .before .args .block .now) (c .before .before .before .before .before .loop .at) _ _ (c .before .before .before .before .before .loop .inv .0) (omega arith) (c .before .list-end .ensures) (c .if1 .left) in omega arith
+sub-if2 c = let t = ended (listKeyOk (byVkey (c .before .before .before .before .before .loop .j))) (c .before .before .before .before .before .before .before .args .block .now) (c .before .before .before .before .before .loop .at) _ _ (c .before .before .before .before .before .loop .inv .0) (omega arith) (c .before .list-end .ensures) (c .if1 .left) in omega arith
 
 returns-2 : tie.Need-returns-2 Inv-loop μ-loop
-returns-2 c = lists-stop _ _ (c .before .before .before .before .before .before .loop .inv .4) (every-stop _ _ _ (c .before .before .before .before .before .loop-test .taken) (one-size (c .before .before .before .before .before .before .before .before .args .block .now) (c .before .before .before .before .before .before .loop .j) (c .before .before .before .before .before .before .loop .at) _ _ _ _ (c .before .before .before .before .before .before .loop .inv .0) (omega arith) (c .before .before .list-end .ensures) refl (c .before .before .before .before .before .before .loop .inv .3) (c .before .before .before .before .get-u16 .ensures) (c .before .before .before .get-u162 .ensures) (c .before .if1 .left) (c .if2 .taken)))
+returns-2 c = lists-stop _ _ (c .before .before .before .before .before .before .loop .inv .4) (every-stop _ _ _ (c .before .before .before .before .before .loop-test .taken) (one-size (c .before .before .before .before .before .before .before .before .args .block .now) (c .before .before .before .before .before .before .loop .j) (c .before .before .before .before .before .before .loop .at) _ _ _ (c .before .before .before .before .before .before .loop .inv .0) (omega arith) (c .before .before .list-end .ensures) (c .before .before .before .before .before .before .loop .inv .3) (c .before .before .before .before .get-u16 .ensures) (c .before .before .before .get-u162 .ensures) (c .before .if1 .left) (c .if2 .taken)))
 
 add-j : tie.Need-add-j Inv-loop μ-loop
 add-j c = omega arith
@@ -59,7 +59,7 @@ loop-less : tie.Need-loop-less Inv-loop μ-loop
 loop-less c = omega arith
 
 loop-again : tie.Need-loop-again Inv-loop μ-loop
-loop-again c = let t = ended _ (c .before .before .before .before .before .before .before .before .args .block .now) (c .before .before .before .before .before .before .loop .at) _ _ (c .before .before .before .before .before .before .loop .inv .0) (omega arith) (c .before .before .list-end .ensures) (c .before .if1 .left) in (t .room, omega arith, omega arith, start-next (c .before .before .before .before .before .before .before .before .args .block .now) (c .before .before .before .before .before .before .loop .j) (c .before .before .before .before .before .before .loop .at) _ _ _ _ (c .before .before .before .before .before .before .loop .inv .0) (omega arith) (c .before .before .list-end .ensures) refl (c .before .before .before .before .before .before .loop .inv .3) (c .before .before .before .before .get-u16 .ensures) (c .before .before .before .get-u162 .ensures) (c .before .if1 .left) (c .if2 .left), c .before .before .before .before .before .before .loop .inv .4 ∙ every-next _ _ _ (c .before .before .before .before .before .loop-test .taken) (one-ok (c .before .before .before .before .before .before .before .before .args .block .now) (c .before .before .before .before .before .before .loop .j) (c .before .before .before .before .before .before .loop .at) _ _ _ _ (c .before .before .before .before .before .before .loop .inv .0) (omega arith) (c .before .before .list-end .ensures) refl (c .before .before .before .before .before .before .loop .inv .3) (c .before .before .before .before .get-u16 .ensures) (c .before .before .before .get-u162 .ensures) (c .before .if1 .left) (c .if2 .left)))
+loop-again c = let t = ended (listKeyOk (byVkey (c .before .before .before .before .before .before .loop .j))) (c .before .before .before .before .before .before .before .before .args .block .now) (c .before .before .before .before .before .before .loop .at) _ _ (c .before .before .before .before .before .before .loop .inv .0) (omega arith) (c .before .before .list-end .ensures) (c .before .if1 .left) in (t .room, omega arith, omega arith, start-next (c .before .before .before .before .before .before .before .before .args .block .now) (c .before .before .before .before .before .before .loop .j) (c .before .before .before .before .before .before .loop .at) _ _ _ (c .before .before .before .before .before .before .loop .inv .0) (omega arith) (c .before .before .list-end .ensures) (c .before .before .before .before .before .before .loop .inv .3) (c .before .before .before .before .get-u16 .ensures) (c .before .before .before .get-u162 .ensures) (c .before .if1 .left) (c .if2 .left), c .before .before .before .before .before .before .loop .inv .4 ∙ every-next _ _ _ (c .before .before .before .before .before .loop-test .taken) (one-ok (c .before .before .before .before .before .before .before .before .args .block .now) (c .before .before .before .before .before .before .loop .j) (c .before .before .before .before .before .before .loop .at) _ _ _ (c .before .before .before .before .before .before .loop .inv .0) (omega arith) (c .before .before .list-end .ensures) (c .before .before .before .before .before .before .loop .inv .3) (c .before .before .before .before .get-u16 .ensures) (c .before .before .before .get-u162 .ensures) (c .before .if1 .left) (c .if2 .left)))
 
 returns-3 : tie.Need-returns-3 Inv-loop μ-loop
 returns-3 c = lists-end _ _ _ (c .loop-test .left) (c .before .loop .inv .2) (c .before .loop .inv .3) (c .before .loop .inv .4)
