@@ -106,21 +106,36 @@ def enum():
 
 def number_code():
     arms = lines(lambda i, c: f'        KeyCode::{c} => return {i + 1},', PLAIN)
-    back = lines(lambda i, c: f'        {i + 1} => return KeyCode::{c},', PLAIN)
-    return f'''pub fn code_number(c: KeyCode) -> u16
+    return f'''// The numbers of key codes (tao's keyboard.rs).
+use keycode::KeyCode;
+ghost use mathlib.Core.Path.{{_≡_}};
+ghost use Rattle.keycode.specs.Number.{{codeNumber}};
+
+// The place of a key code in tao's KeyCode. Each arm returns by itself: code behind the match would be proved once for every arm.
+pub fn code_number(c: KeyCode) -> u16
     ensures {{ λ r. ⌜ r ≡ codeNumber c ⌝ }}
 {{
     match c {{
         KeyCode::Unidentified(_) => return 0,
 {arms}    }}
 }}
+'''
 
-// The key code at a place; at 0 and past the last, the unidentified one with that native code.
+
+def at_code():
+    arms = lines(lambda i, c: f'        {i + 1} => return KeyCode::{c},', PLAIN)
+    return f'''// The key codes of numbers (tao's keyboard.rs).
+use keycode::KeyCode;
+use keys::NativeKeyCode;
+ghost use mathlib.Core.Path.{{_≡_}};
+ghost use Rattle.keycode.specs.Number.{{codeAt}};
+
+// The key code at a place; at 0 and past the last, the unidentified one with that native code. Each arm returns by itself, as in code_number.
 pub fn code_at(n: u16, native: NativeKeyCode) -> KeyCode
     ensures {{ λ r. ⌜ r ≡ codeAt n native ⌝ }}
 {{
     match n {{
-{back}        _ => return KeyCode::Unidentified(native),
+{arms}        _ => return KeyCode::Unidentified(native),
     }}
 }}
 '''
@@ -131,17 +146,15 @@ def numbered(name, i):
 
 
 def code_number_proof():
-    answers = ''.join(f'    (λ c. c .match .keys{i})\n    (λ c. arm codeNumber (c .{numbered("enum-told", i)} .given .1))\n'
+    answers = ''.join(f'    (λ c. c .match .keys{i})\n    (λ c. tagged (c .before .before .args .c) (c .before .match .keys{i}))\n'
                       for i in range(1, len(CODE) + 1))
-    return f'''-- `keycode::code_number` meets its contract: in each arm the key code is the arm's case, whose number computes.
+    return f'''-- `codenumber::code_number` meets its contract: a key code's place is its tag, and in each arm the tag is the arm's number.
 -- Assumes nothing.
-use Rattle.keys.proofs.Arms.{{arm}}
-use Rattle.keycode.specs.Number.{{codeNumber}}
-use Rattle.keycode.proofs.code_number.Statement.{{statement}}
-use Rattle.keycode.proofs.code_number.Tie as tie
+use Rattle.keycode.proofs.Codes.{{tagged}}
+use Rattle.codenumber.proofs.code_number.Statement.{{statement}}
+use Rattle.codenumber.proofs.code_number.Tie as tie
 
 pub code-number-spec : {{M : Type 1}} → statement M
-unfolding codeNumber
 code-number-spec =
     tie.close
     (tie.spec
@@ -151,30 +164,37 @@ code-number-spec =
 
 def code_at_proof():
     keys = ''.join(f'    ({i} ∷ []) ∷\n' for i in range(len(PLAIN), 0, -1))
-    answers = ''.join(f'    (λ c. arm (λ n. codeAt n (c .before .args .native)) (c .match .keys{i}))\n' for i in range(1, len(PLAIN) + 1))
-    return f'''-- `keycode::code_at` meets its contract: each arm's number is looked up by computing, and the arm `_` by `missed`.
+    answers = lines(lambda i, c: f'    (λ c. at-number kc.{c} (c .before .args .native) (c .match .keys{i + 1}) refl refl)', PLAIN)
+    return f'''-- `codeat::code_at` meets its contract: each arm's key code has the arm's number, and no listed key code has the number in the arm `_`.
 -- Assumes nothing.
+use mathlib.Core.Path.{{_≡_, refl}}
 use mathlib.Core.List.{{List, [], _∷_}}
 use Prim.Native.Nat.{{ℕ}}
 use Rattle.area.specs.Look.{{lookup}}
-use Rattle.area.proofs.Switch.{{missed}}
-use Rattle.keys.proofs.Arms.{{arm}}
+use Rattle.area.proofs.Switch.{{Rest, missed}}
+use Rattle.keys.specs.declared.NativeKeyCode.{{NativeKeyCode}}
 use Rattle.keycode.specs.declared.KeyCode.the-variants as kc
-use Rattle.keycode.specs.Number.{{codeAt, codes}}
-use Rattle.keycode.proofs.code_at.Statement.{{statement}}
-use Rattle.keycode.proofs.code_at.Tie as tie
+use Rattle.keycode.specs.Number.{{codeNumber, codeAt, codes}}
+use Rattle.keycode.proofs.Codes.{{at-number}}
+use Rattle.codeat.proofs.code_at.Statement.{{statement}}
+use Rattle.codeat.proofs.code_at.Tie as tie
 
 -- the arms' keys, the last arm first
-arms : List (List ℕ)
+abbrev arms : List (List ℕ)
 arms =
 {keys}    []
 
+-- codeAt stays shut below, so that a wrong arm is refused without computing it
+unlisted : (n : ℕ) (held : NativeKeyCode) → Rest arms n → kc.Unidentified held ≡ codeAt n held
+unfolding codeAt codes lookup
+unlisted n held rest = missed arms n (kc.Unidentified held) codes rest tt
+
 pub code-at-spec : {{M : Type 1}} → statement M
-unfolding codeAt codes lookup arms
+unfolding codeNumber
 code-at-spec =
     tie.close
     (tie.spec
-{answers}    (λ c. missed arms (c .before .args .n) (kc.Unidentified (c .before .args .native)) codes (c .match .rest) tt))
+{answers}    (λ c. unlisted (c .before .args .n) (c .before .args .native) (c .match .rest)))
 '''
 
 
@@ -198,12 +218,12 @@ each-code (kc.Unidentified held) = (refl, refl, refl)
 
 
 def scan_code():
-    arms = lines(lambda i, a: f'        {" | ".join(a[0])} => KeyCode::{a[1]},', ARMS)
+    arms = lines(lambda i, a: f'        {" | ".join(a[0])} => return KeyCode::{a[1]},', ARMS)
     return f'''pub fn keycode_from_scancode(scancode: u16) -> KeyCode
     ensures {{ λ r. ⌜ r ≡ keyCodeOf scancode ⌝ }}
 {{
     match scancode {{
-{arms}        _ => KeyCode::Unidentified(NativeKeyCode::Windows(scancode)),
+{arms}        _ => return KeyCode::Unidentified(NativeKeyCode::Windows(scancode)),
     }}
 }}
 '''
@@ -235,35 +255,45 @@ def scan_proof():
     keys = ''.join('    (' + ' ∷ '.join(codes) + ' ∷ []) ∷\n' for codes, _ in reversed(ARMS))
 
     def answer(i, row):
-        way = f'c .match .keys{i + 1}'
-        return f'    (λ c. arm keyCodeOf ({way}))' if len(row[0]) == 1 else f'    (λ c. ⊎-elim (λ h. arm keyCodeOf h) (λ h. arm keyCodeOf h) ({way}))'
+        way, key = f'c .match .keys{i + 1}', row[1]
+        if len(row[0]) == 1:
+            return f'    (λ c. listed kc.{key} ({way}) refl)'
+        return f'    (λ c. ⊎-elim (λ h. listed kc.{key} h refl) (λ h. listed kc.{key} h refl) ({way}))'
     return f'''-- `scancode::keycode_from_scancode` meets its contract: each arm's code is looked up by computing, and the arm `_` by `missed`.
 -- Assumes nothing.
+use mathlib.Core.Path.{{_≡_, refl, sym, ap, _∙_}}
 use mathlib.Core.List.{{List, [], _∷_}}
 use mathlib.Core.Logic.{{⊎-elim}}
 use Prim.Native.Nat.{{ℕ}}
 use Rattle.area.specs.Look.{{lookup}}
-use Rattle.area.proofs.Switch.{{missed}}
+use Rattle.area.proofs.Switch.{{Rest, missed}}
 use Rattle.keys.specs.declared.NativeKeyCode.the-variants as nat
-use Rattle.keys.proofs.Arms.{{arm}}
+use Rattle.keycode.specs.declared.KeyCode.{{KeyCode}}
 use Rattle.keycode.specs.declared.KeyCode.the-variants as kc
 use Rattle.scancode.specs.Codes.{{scanCodes, keyCodeOf}}
 use Rattle.scancode.proofs.keycode_from_scancode.Statement.{{statement}}
 use Rattle.scancode.proofs.keycode_from_scancode.Tie as tie
 
 -- the arms' codes, the last arm first
-arms : List (List ℕ)
+abbrev arms : List (List ℕ)
 arms =
 {keys}    []
 
+-- the two laws leave keyCodeOf shut in the proof, so that a wrong arm is refused without computing it
+listed : (r : KeyCode) {{x k : ℕ}} → x ≡ k → lookup scanCodes (kc.Unidentified (nat.Windows k)) k ≡ r → r ≡ keyCodeOf x
+unfolding keyCodeOf
+listed r h e = sym e ∙ sym (ap keyCodeOf h)
+
+unlisted : (n : ℕ) → Rest arms n → kc.Unidentified (nat.Windows n) ≡ keyCodeOf n
+unfolding keyCodeOf scanCodes
+unlisted n rest = missed arms n (kc.Unidentified (nat.Windows n)) scanCodes rest tt
+
 pub keycode-from-scancode-spec : {{M : Type 1}} → statement M
-unfolding keyCodeOf scanCodes lookup arms
+unfolding scanCodes lookup
 keycode-from-scancode-spec =
     tie.close
     (tie.spec
-{lines(answer, ARMS)}    (λ c.
-      missed arms (c .before .args .scancode) (kc.Unidentified (nat.Windows (c .before .args .scancode))) scanCodes (c .match .rest) tt
-    ))
+{lines(answer, ARMS)}    (λ c. unlisted (c .before .args .scancode) (c .match .rest)))
 '''
 
 
@@ -289,13 +319,15 @@ def main():
     write('crates/keys/specs/Places.antt', places())
     replace('crates/keys/src/lib.rt', places=place_code())
     write('crates/keycode/specs/Number.antt', number_specs())
-    write('crates/keycode/proofs/code_number/Proof.antt', code_number_proof())
-    write('crates/keycode/proofs/code_at/Proof.antt', code_at_proof())
+    write('crates/codenumber/src/lib.rt', number_code())
+    write('crates/codenumber/proofs/code_number/Proof.antt', code_number_proof())
+    write('crates/codeat/src/lib.rt', at_code())
+    write('crates/codeat/proofs/code_at/Proof.antt', code_at_proof())
     write('crates/keycode/proofs/EachCode.antt', each_code_proof())
     write('crates/scancode/specs/Codes.antt', scan_specs())
     write('crates/scancode/proofs/keycode_from_scancode/Proof.antt', scan_proof())
     replace('crates/scancode/src/lib.rt', keycode_from_scancode=scan_code())
-    replace('crates/keycode/src/lib.rt', KeyCode=enum(), numbers=number_code())
+    replace('crates/keycode/src/lib.rt', KeyCode=enum())
 
 
 if __name__ == '__main__':

@@ -13,7 +13,7 @@ use borrow.Author.Tests.{ltb-true, eq-eqb, ne-eqb}
 use Rattle.area.specs.Pick.{pick}
 use Rattle.area.specs.Walk.{every}
 use Rattle.area.proofs.Walk.{every-end}
-use Rattle.keycode.proofs.CodeKeys.{code-key-below}
+use Rattle.listkey.proofs.CodeKeys.{code-key-below}
 use Rattle.block.specs.Block.{keyOf, lenOf, nextOf, entryOk, listOk, usedOf, countAt, sizeAt, startOf, listKeyOk, byVkey, oneOk, listsOk, LISTS}
 use Rattle.block.proofs.Entry.{Stride, there, stepped, stopped}
 

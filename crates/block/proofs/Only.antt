@@ -13,8 +13,8 @@ use borrow.Author.Tests.{le-ltb}
 use Rattle.area.specs.Pick.{pick}
 use Rattle.area.specs.Bytes.{Bytes}
 use Rattle.area.proofs.Bytes.{bytes-drop}
-use Rattle.keycode.specs.CodeKey.{codeKeyOk}
-use Rattle.keycode.proofs.CodeKeys.{code-key-exact}
+use Rattle.listkey.specs.CodeKey.{codeKeyOk}
+use Rattle.listkey.proofs.CodeKeys.{code-key-exact}
 use Rattle.block.specs.Maps.{Item, MapsOk, itemsOk, numberedAll, codesFit, codeListsOk, nonCharOk}
 use Rattle.block.specs.Block.{usedOf, countAt, sizeAt, startOf, listKeyOk, byVkey, tableOk, blockOk, listAt, codedAll, codesFrom, mapsOf, LISTS, HEAD}
 use Rattle.block.specs.Encode.{encodeItems, words, bodies, counts, sizes, numberedLists, listsIn, cellsIn, blockOf}

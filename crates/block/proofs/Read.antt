@@ -9,7 +9,7 @@ use lib.Dec.{eqb}
 use lib.ListN.{getD}
 use Rattle.area.specs.Pick.{pick}
 use Rattle.keycode.specs.declared.KeyCode.{KeyCode}
-use Rattle.keycode.specs.CodeKey.{codeKey}
+use Rattle.listkey.specs.CodeKey.{codeKey}
 use Rattle.block.specs.Maps.{find, findCode, listFor}
 use Rattle.block.specs.Block.{cellAt, listAt, mapsOf}
 use Rattle.block.proofs.Passed.{Block}

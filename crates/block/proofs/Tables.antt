@@ -9,8 +9,8 @@ use lib.ListN.{drop, getD}
 use borrow.Author.Tests.{le-ltb}
 use Rattle.area.proofs.Pick.{yes-no}
 use Rattle.keycode.specs.declared.KeyCode.{KeyCode}
-use Rattle.keycode.specs.CodeKey.{codeKey, codeKeyOk}
-use Rattle.keycode.proofs.CodeKeys.{code-key-exact}
+use Rattle.listkey.specs.CodeKey.{codeKey, codeKeyOk}
+use Rattle.listkey.proofs.CodeKeys.{code-key-exact}
 use Rattle.block.specs.Maps.{Item, find, findCode, listFor}
 use Rattle.block.specs.Block.{keyOf, nextOf, entryOk, itemOf, listOk, itemsOf, countAt, startOf, cellAt, listAt, codedAll, cellsFrom, codesFrom, LISTS}
 use Rattle.block.proofs.Entry.{there}

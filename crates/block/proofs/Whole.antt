@@ -17,8 +17,8 @@ use Rattle.area.proofs.Pick.{no-yes, yes-no}
 use Rattle.area.proofs.Bytes.{bytes-append}
 use Rattle.keys.specs.Places.{firstNamed, keyCases}
 use Rattle.keys.specs.Key.{namedOk}
-use Rattle.keycode.specs.CodeKey.{codeKeyOk, codeFits}
-use Rattle.keycode.proofs.CodeKeys.{code-key-back}
+use Rattle.listkey.specs.CodeKey.{codeKeyOk, codeFits}
+use Rattle.listkey.proofs.CodeKeys.{code-key-back}
 use Rattle.block.specs.Maps.{Item, CodeItem, Maps, MapsOk, itemsOk, numberedAll, codesFit, codeListsOk, nonCharOk, word, cellsOk}
 use Rattle.block.specs.Block.{countAt, sizeAt, startOf, listKeyOk, byVkey, oneOk, listsOk, tableOk, blockOk, listAt, codedAll, cellsFrom, codesFrom, mapsOf, LISTS, CELLS, HEAD, BLOCK-MOST}
 use Rattle.block.specs.Encode.{encodeItems, words, bodies, counts, sizes, numberedLists, listsIn, cellsIn, blockOf, entryBytes, itemBytes}

@@ -11,7 +11,7 @@ use Rattle.area.specs.Walk.{every}
 use Rattle.text.specs.Unicode.{wellFormed}
 use Rattle.keys.specs.Key.{keyAt, keyOk}
 use Rattle.keys.specs.Text.{full}
-use Rattle.keycode.specs.CodeKey.{codeKeyOk, codeOfKey}
+use Rattle.listkey.specs.CodeKey.{codeKeyOk, codeOfKey}
 use Rattle.block.specs.Maps.{Item, CodeItem, Maps, lenOk, vkeyOk, nonCharOk}
 
 -- ---- 1. An entry, at the head of the bytes l: sixteen bytes, then its text.

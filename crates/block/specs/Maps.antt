@@ -12,7 +12,7 @@ use Rattle.text.specs.Unicode.{wellFormed}
 use Rattle.keys.specs.Key.{keyNumber, keyFits, namedOk}
 use Rattle.keys.specs.Text.{FullKey, bareOf, textIn}
 use Rattle.keycode.specs.declared.KeyCode.{KeyCode}
-use Rattle.keycode.specs.CodeKey.{codeKey, codeKeyOk, codeFits}
+use Rattle.listkey.specs.CodeKey.{codeKey, codeKeyOk, codeFits}
 
 -- an entry of numlock_on_keys and numlock_off_keys: HashMap<u16, Key>
 pub record Item : Type 0 where

@@ -30,7 +30,7 @@ fn list_key_ok(by_vkey: bool, key: u64) -> bool
     if by_vkey {
         return key < 256;
     }
-    keycode::code_key_ok(key)
+    listkey::code_key_ok(key)
 }
 
 // The bytes of the entry at the head of l, 0 where there is none.

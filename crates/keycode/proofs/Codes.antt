@@ -82,3 +82,26 @@ module _ (held : NativeKeyCode) where
 
 pub native-plain : (c : KeyCode) → 0 < codeNumber c → codeNative c ≡ nat.Unidentified
 native-plain c h = sym (ap codeNative (code-back c)) ∙ native-other (codeNative c) (codeNumber c) h (code-below c)
+
+-- what a match on a key code knows is its tag
+pub tagged : (x : KeyCode) {k : ℕ} → tagOf (declared K.enum) x ≡ k → k ≡ codeNumber x
+tagged x h = sym h ∙ sym (number-is-tag x)
+
+both : {A B : Type 0} (f : ℕ → B → A) {m n : ℕ} {p q : B} → m ≡ n → p ≡ q → f m p ≡ f n q
+both f {m} {n} {p} e g = ap (λ i. f i p) e ∙ ap (f n) g
+
+-- two key codes with one number are the same, unless they are unidentified
+pub same-number : (a b : KeyCode) → codeNumber a ≡ codeNumber b → 0 < codeNumber a → a ≡ b
+same-number a b e h =
+    let p = native-plain a h in
+    let q = native-plain b (omega arith) in
+    sym (code-back a) ∙ both codeAt e (p ∙ sym q) ∙ code-back b
+
+-- the key code at a place past 0, known by its number
+pub at-number : (r : KeyCode) (held : NativeKeyCode) {x k : ℕ} → x ≡ k → eqb (codeNumber r) k ≡ true → ltb 0 k ≡ true → r ≡ codeAt x held
+at-number r held {x} {k} h e l =
+    let i = eqb-true (codeNumber r) k e in
+    let j = ltb-true 0 k l in
+    let b = code-below r in
+    let m = code-exact held x (omega arith) in
+    same-number r (codeAt x held) (omega arith) (omega arith)

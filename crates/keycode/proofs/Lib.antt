@@ -1,3 +1,2 @@
 pub mod EachCode
 pub mod Codes
-pub mod CodeKeys

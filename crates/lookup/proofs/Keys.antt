@@ -15,7 +15,7 @@ use Rattle.keys.specs.Text.{FullKey, named, unidentified, full}
 use Rattle.keys.specs.declared.Key.the-variants.{Named, Unidentified}
 use Rattle.keys.specs.declared.NativeKeyCode.the-variants.{Windows}
 use Rattle.keycode.specs.declared.KeyCode.{KeyCode}
-use Rattle.keycode.specs.CodeKey.{codeKey}
+use Rattle.listkey.specs.CodeKey.{codeKey}
 use Rattle.block.specs.Maps.{find, findCode, listFor}
 use Rattle.block.specs.Block.{itemOf, listAt, placeIn, blockOk, mapsOf, LISTS, BLOCK-MOST}
 use Rattle.block.proofs.Passed.{Block, passed}

@@ -166,7 +166,7 @@ fn place_for(
     if p != 0 {
         return p;
     }
-    place_in(block, 2 + mods.bits(), keycode::code_key(code))
+    place_in(block, 2 + mods.bits(), listkey::code_key(code))
 }
 
 // tao's Layout::get_key. A virtual key above FF finds nothing in the first two lookups.

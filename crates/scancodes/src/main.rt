@@ -29,7 +29,7 @@ fn show(scancode: u16) -> u64
     ensures { λ r. ⌜ r ≤ 1 ⌝ }
 {
     let code = keycode_from_scancode(scancode);
-    let number = keycode::code_number(code);
+    let number = codenumber::code_number(code);
     if number != 0 {
         show_code(scancode, number);
         return 0;

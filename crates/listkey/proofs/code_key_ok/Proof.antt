@@ -1,10 +1,10 @@
--- `keycode::code_key_ok` meets its contract: the tests on the place pick the answer.
+-- `listkey::code_key_ok` meets its contract: the tests on the place pick the answer.
 -- Assumes nothing.
 use borrow.Author.Tests.{lt-ltb, le-ltb, eq-eqb, ne-eqb}
 use borrow.Author.Needs.{needs}
-use Rattle.keycode.specs.CodeKey.{codeKeyOk}
-use Rattle.keycode.proofs.code_key_ok.Statement.{statement}
-use Rattle.keycode.proofs.code_key_ok.Tie as tie
+use Rattle.listkey.specs.CodeKey.{codeKeyOk}
+use Rattle.listkey.proofs.code_key_ok.Statement.{statement}
+use Rattle.listkey.proofs.code_key_ok.Tie as tie
 
 cast-kind : tie.Need-cast-kind
 cast-kind c = search needs

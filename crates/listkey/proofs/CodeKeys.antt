@@ -13,10 +13,10 @@ use Rattle.keys.specs.Key.{noneHeld}
 use Rattle.keys.specs.declared.NativeKeyCode.{NativeKeyCode}
 use Rattle.keys.specs.declared.NativeKeyCode.the-variants as nat
 use Rattle.keys.proofs.Numbers.{native-back, native-exact, native-below, held-none}
 use Rattle.keycode.specs.declared.KeyCode.{KeyCode}
 use Rattle.keycode.specs.Number.{codeCases, codeNumber, codeNative, codeAt}
-use Rattle.keycode.specs.CodeKey.{codeFits, codeKey, placePart, kindPart, valuePart, codeKeyOk, codeOfKey}
+use Rattle.listkey.specs.CodeKey.{codeFits, codeKey, placePart, kindPart, valuePart, codeKeyOk, codeOfKey}
 use Rattle.keycode.proofs.Codes.{code-back, code-below, code-exact, native-first, native-other, native-plain}
 
 module _ (v k n : ℕ) (hv : v < 2 ^ 32) (hk : k < 256) where
   abbrev joined : ℕ

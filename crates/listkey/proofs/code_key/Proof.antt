@@ -1,9 +1,9 @@
--- `keycode::code_key` meets its contract: the sum of what the calls answer.
+-- `listkey::code_key` meets its contract: the sum of what the calls answer.
 -- Assumes nothing.
 use borrow.Author.Needs.{needs}
-use Rattle.keycode.specs.CodeKey.{codeKey}
-use Rattle.keycode.proofs.code_key.Statement.{statement}
-use Rattle.keycode.proofs.code_key.Tie as tie
+use Rattle.listkey.specs.CodeKey.{codeKey}
+use Rattle.listkey.proofs.code_key.Statement.{statement}
+use Rattle.listkey.proofs.code_key.Tie as tie
 
 code-native-requires : tie.Need-code-native-requires
 code-native-requires c κs = tt
