@@ -49,7 +49,7 @@ fn entry_len(l: &[u8], by_vkey: bool, lo: u64) -> usize
     }
     let number = area::get_u16(l, 8);
     let value = area::get_u32(l, 12);
-    if !keys::key_ok(number, l[10], value) {
+    if !keynumber::key_ok(number, l[10], value) {
         return 0;
     }
     if !len_ok(number, l[11]) {
@@ -92,7 +92,7 @@ fn non_char_ok(n: u16) -> bool
     if n == 0 {
         return true;
     }
-    keys::named_ok(n)
+    keynumber::named_ok(n)
 }
 
 fn table_ok(block: &[u8]) -> bool

@@ -37,10 +37,11 @@ fn wide(x: u8) -> u64 {
 }
 
 fn show_native(native: NativeKeyCode) {
+    let held = nativecode::native_fields(native);
     io::write_all(STDOUT_FILENO, b"U");
-    io::print_decimal(STDOUT_FILENO, wide(keys::native_kind(native)));
+    io::print_decimal(STDOUT_FILENO, wide(held.kind));
     io::write_all(STDOUT_FILENO, b":");
-    io::print_hex(STDOUT_FILENO, keys::native_value(native) as u64, 1);
+    io::print_hex(STDOUT_FILENO, held.value as u64, 1);
 }
 
 fn show_key(block: &[u8], k: LayoutKey) {

@@ -1,4 +1,3 @@
 pub mod Arms
-mod Signed
 pub mod Numbers
 pub mod Full

@@ -12,9 +12,9 @@ const PLACE_UNIT: u64 = 0x100_0000_0000;
 pub fn code_key(c: KeyCode) -> u64
     ensures { λ r. ⌜ r ≡ codeKey c ⌝ }
 {
-    let native = keycode::code_native(c);
-    let value = keys::native_value(native) as u64;
-    let kind = keys::native_kind(native) as u64;
+    let held = nativecode::native_fields(keycode::code_native(c));
+    let value = held.value as u64;
+    let kind = held.kind as u64;
     let place = codenumber::code_number(c) as u64;
     value + KIND_UNIT * (kind + 256 * place)
 }
@@ -30,7 +30,7 @@ pub fn code_key_ok(key: u64) -> bool
         return false;
     }
     if place == 0 {
-        return keys::native_ok(kind, value);
+        return nativecode::native_ok(kind, value);
     }
-    keys::none_held(kind, value)
+    if kind == 0 { value == 0 } else { false }
 }

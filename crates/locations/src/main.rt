@@ -11,7 +11,7 @@ fn show(block: &[u8], scancode: u16)
     requires { ⌜ blockOk (now block) ≡ true ⌝ }
 {
     let location = get_location(block, scancode);
-    io::print_decimal(STDOUT_FILENO, keys::location_number(location) as u64);
+    io::print_decimal(STDOUT_FILENO, nativecode::location_number(location) as u64);
     if scancode % 16 == 15 {
         io::write_all(STDOUT_FILENO, b"\n");
     }

@@ -5,7 +5,7 @@ ghost use Prim.Native.Nat.{_+_, _≤_, _<_};
 ghost use lib.ListN.{length, drop};
 ghost use Rattle.area.specs.Pick.{pick};
 ghost use Rattle.block.specs.Block.{listKeyOk, listOk, cellAt, startOf, blockOk, mapsOf, placeOf, placeIn, HEAD, CELLS, LISTS, BLOCK-MOST};
-ghost use Rattle.keycode.specs.CodeKey.{codeKey};
+ghost use Rattle.listkey.specs.CodeKey.{codeKey};
 ghost use Rattle.keystroke.specs.Modifiers.{bitsOf};
 ghost use Rattle.lookup.specs.Layout.{nonCharKey, getKey, scanCodeFor, vkeyFor, partOf, keyIn, foundAt, placeFor};
 use keycode::KeyCode;
@@ -137,7 +137,7 @@ fn found_at(block: &[u8], at: usize) -> LayoutKey
 {
     let number = area::get_u16(block, at + 8);
     let value = area::get_u32(block, at + 12);
-    let key = keys::key_at(number, block[at + 10], value);
+    let key = keynumber::key_at(number, block[at + 10], value);
     LayoutKey {
         key,
         start: at + 16,

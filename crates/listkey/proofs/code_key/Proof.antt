@@ -1,6 +1,11 @@
 -- `listkey::code_key` meets its contract: the sum of what the calls answer.
 -- Assumes nothing.
+use mathlib.Core.Path.{_≡_, ap, _∙_}
+use Prim.Native.Nat.{ℕ, _+_, _*_, _^_}
 use borrow.Author.Needs.{needs}
+use Rattle.keys.specs.Native.{nativeKind, nativeValue}
+use Rattle.keycode.specs.Number.{codeNumber, codeNative}
+use Rattle.keycode.specs.declared.KeyCode.{KeyCode}
 use Rattle.listkey.specs.CodeKey.{codeKey}
 use Rattle.listkey.proofs.code_key.Statement.{statement}
 use Rattle.listkey.proofs.code_key.Tie as tie
@@ -8,14 +13,11 @@ use Rattle.listkey.proofs.code_key.Tie as tie
 code-native-requires : tie.Need-code-native-requires
 code-native-requires c κs = tt
 
-native-value-requires : tie.Need-native-value-requires
-native-value-requires c κs = tt
+native-fields-requires : tie.Need-native-fields-requires
+native-fields-requires c κs = tt
 
 cast-value : tie.Need-cast-value
 cast-value c = search needs
-
-native-kind-requires : tie.Need-native-kind-requires
-native-kind-requires c κs = tt
 
 cast-kind : tie.Need-cast-kind
 cast-kind c = search needs
@@ -38,18 +40,26 @@ mul-result-2 c = search needs
 add-result-2 : tie.Need-add-result-2
 add-result-2 c = search needs
 
-returns : tie.Need-returns
+-- codeKey stays shut below, so that a wrong sum is refused without computing it
+joined :
+    (c : KeyCode) {v k n : ℕ} → v ≡ nativeValue (codeNative c) → k ≡ nativeKind (codeNative c) → n ≡ codeNumber c →
+    v + 2 ^ 32 * (k + 256 * n) ≡ codeKey c
 unfolding codeKey
-returns c = cc
+joined c {v} {k} {n} p q r = rw (p, q, r)
+
+returns : tie.Need-returns
+returns c =
+    let e = c .before .before .before .before .code-native .ensures in
+    let f = c .before .before .before .native-fields .ensures in
+    joined _ (f .1 ∙ ap nativeValue e) (f .0 ∙ ap nativeKind e) (c .code-number .ensures)
 
 pub code-key-spec : {M : Type 1} → statement M
 code-key-spec =
     tie.close
     (tie.spec
     code-native-requires
-    native-value-requires
+    native-fields-requires
     cast-value
-    native-kind-requires
     cast-kind
     code-number-requires
     cast-place

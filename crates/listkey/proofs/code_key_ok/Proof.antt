@@ -2,6 +2,7 @@
 -- Assumes nothing.
 use borrow.Author.Tests.{lt-ltb, le-ltb, eq-eqb, ne-eqb}
 use borrow.Author.Needs.{needs}
+use Rattle.keys.specs.Key.{noneHeld}
 use Rattle.listkey.specs.CodeKey.{codeKeyOk}
 use Rattle.listkey.proofs.code_key_ok.Statement.{statement}
 use Rattle.listkey.proofs.code_key_ok.Tie as tie
@@ -23,12 +24,13 @@ returns-2 : tie.Need-returns-2
 unfolding codeKeyOk
 returns-2 c = rw (c .native-ok .ensures) (simp (lt-ltb _ _ (c .before .before .if1 .left), eq-eqb _ _ (c .before .if2 .taken)))
 
-none-held-requires : tie.Need-none-held-requires
-none-held-requires c κs = search needs
-
 returns-3 : tie.Need-returns-3
-unfolding codeKeyOk
-returns-3 c = rw (c .none-held .ensures) (simp (lt-ltb _ _ (c .before .before .if1 .left), ne-eqb _ _ (c .before .if2 .left)))
+unfolding codeKeyOk noneHeld
+returns-3 c = simp (lt-ltb _ _ (c .before .before .if1 .left), ne-eqb _ _ (c .before .if2 .left), eq-eqb _ _ (c .if3 .taken))
+
+returns-4 : tie.Need-returns-4
+unfolding codeKeyOk noneHeld
+returns-4 c = simp (lt-ltb _ _ (c .before .before .if1 .left), ne-eqb _ _ (c .before .if2 .left), ne-eqb _ _ (c .if3 .left))
 
 pub code-key-ok-spec : {M : Type 1} → statement M
 code-key-ok-spec =
@@ -39,5 +41,5 @@ code-key-ok-spec =
     returns
     native-ok-requires
     returns-2
-    none-held-requires
-    returns-3)
+    returns-3
+    returns-4)

@@ -1,5 +1,5 @@
 use native.Mathlib.Omega.{arith}
-use Rattle.keycode.specs.CodeKey.{codeKey}
+use Rattle.listkey.specs.CodeKey.{codeKey}
 use Rattle.keystroke.specs.Modifiers.{bitsOf}
 use Rattle.keystroke.proofs.Sets.{bits-below}
 use Rattle.lookup.proofs.Keys.{place-lock, place-code}
