@@ -8,7 +8,7 @@ use crate::keyboard_layout::scancode_for;
 use crate::keyboard_layout::vkey_for;
 use keys::KeyLocation;
 use keystroke::KeyLParam;
-use keystroke::new_ex_scancode;
+use lparam::new_ex_scancode;
 
 // Where a virtual key belongs, before the scan code's page is looked at.
 pub enum VkeyPlace {

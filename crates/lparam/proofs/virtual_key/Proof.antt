@@ -1,7 +1,7 @@
 use Rattle.keystroke.specs.LParam.{virtualKey}
 use borrow.Author.Needs.{needs}
-use Rattle.keystroke.proofs.virtual_key.Statement.{statement}
-use Rattle.keystroke.proofs.virtual_key.Tie as tie
+use Rattle.lparam.proofs.virtual_key.Statement.{statement}
+use Rattle.lparam.proofs.virtual_key.Tie as tie
 
 cast-result : tie.Need-cast-result
 cast-result c = search needs

@@ -1,8 +1,8 @@
 use native.Mathlib.Nat.{add-zero}
 use Rattle.keystroke.specs.LParam.{exScancode}
 use borrow.Author.Needs.{needs}
-use Rattle.keystroke.proofs.new_ex_scancode.Statement.{statement}
-use Rattle.keystroke.proofs.new_ex_scancode.Tie as tie
+use Rattle.lparam.proofs.new_ex_scancode.Statement.{statement}
+use Rattle.lparam.proofs.new_ex_scancode.Tie as tie
 
 add-result : tie.Need-add-result
 add-result c = search needs

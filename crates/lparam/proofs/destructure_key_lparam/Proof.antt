@@ -1,7 +1,7 @@
 use Rattle.keystroke.specs.LParam.{keyLParam}
 use borrow.Author.Needs.{needs}
-use Rattle.keystroke.proofs.destructure_key_lparam.Statement.{statement}
-use Rattle.keystroke.proofs.destructure_key_lparam.Tie as tie
+use Rattle.lparam.proofs.destructure_key_lparam.Statement.{statement}
+use Rattle.lparam.proofs.destructure_key_lparam.Tie as tie
 
 cast-t6 : tie.Need-cast-t6
 cast-t6 c = search needs

@@ -1,8 +1,8 @@
 use Rattle.keystroke.specs.LParam.{keyLParam, exScancodeOf}
 use mathlib.Core.Path.{_∙_}
 use borrow.Author.Needs.{needs}
-use Rattle.keystroke.proofs.ex_scancode_from_lparam.Statement.{statement}
-use Rattle.keystroke.proofs.ex_scancode_from_lparam.Tie as tie
+use Rattle.lparam.proofs.ex_scancode_from_lparam.Statement.{statement}
+use Rattle.lparam.proofs.ex_scancode_from_lparam.Tie as tie
 
 destructure-key-lparam-requires : tie.Need-destructure-key-lparam-requires
 destructure-key-lparam-requires c κs = search needs
