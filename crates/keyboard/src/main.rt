@@ -103,25 +103,17 @@ fn show_lock(block: &[u8], set: u8, on: u8)
     }
 }
 
-fn show_set(block: &[u8], set: u8)
-    requires { ⌜ blockOk (now block) ≡ true ⌝ }
-{
-    show_lock(block, set, 0);
-    show_lock(block, set, 1);
-}
-
 fn show_all(block: &[u8]) {
     if !block_ok(block) {
         io::write_all(STDOUT_FILENO, b"not a layout block\n");
         return;
     }
-    show_set(block, 0);
-    show_set(block, 1);
-    show_set(block, 2);
-    show_set(block, 4);
-    show_set(block, 6);
-    show_set(block, 8);
-    show_set(block, 9);
+    let sets: [u8; 7] = [0, 1, 2, 4, 6, 8, 9];
+    let mut i: usize = 0;
+    while i < 14 {
+        show_lock(block, sets[i / 2], (i % 2) as u8);
+        i += 1;
+    }
 }
 
 fn main() {

@@ -35,11 +35,12 @@ fn show_all(block: &[u8]) {
         io::write_all(STDOUT_FILENO, b"not a layout block\n");
         return;
     }
-    show_page(block, 0x00);
-    show_page(block, 0xE0);
-    show_page(block, 0xE1);
-    show_page(block, 0x01);
-    show_page(block, 0xFF);
+    let pages: [u8; 5] = [0x00, 0xE0, 0xE1, 0x01, 0xFF];
+    let mut i: usize = 0;
+    while i < 5 {
+        show_page(block, pages[i]);
+        i += 1;
+    }
 }
 
 fn main() {

@@ -1,50 +1,67 @@
-use mathlib.Core.Path.{sym, _∙_}
+-- Assumes nothing.
+use Prim.Native.Nat.{_≤_, _-_}
+use mathlib.Core.Path.{_≡_, sym, _∙_}
+use mathlib.Core.Bool.{true}
+use native.Mathlib.Omega.{arith}
 use borrow.Author.Tests.{not-false}
 use borrow.Author.Needs.{needs}
+use Rattle.block.specs.Block.{blockOk}
 use Rattle.locations.proofs.show_all.Statement.{statement}
 use Rattle.locations.proofs.show_all.Tie as tie
 
-block-ok-requires : tie.Need-block-ok-requires
+abbrev Inv-loop : tie.InvT-loop
+Inv-loop block pages i₀ i = (blockOk block ≡ true) × (i ≤ 5)
+
+abbrev μ-loop : tie.MeasureT-loop
+μ-loop block pages i₀ i = 5 - i
+
+block-ok-requires : tie.Need-block-ok-requires Inv-loop μ-loop
 block-ok-requires c κs = search needs
 
-slice-aggregate-write-all : tie.Need-slice-aggregate-write-all
+slice-aggregate-write-all : tie.Need-slice-aggregate-write-all Inv-loop μ-loop
 slice-aggregate-write-all c = search needs
 
-write-all-requires : tie.Need-write-all-requires
+write-all-requires : tie.Need-write-all-requires Inv-loop μ-loop
 write-all-requires c κs = search needs
 
-returns : tie.Need-returns
+returns : tie.Need-returns Inv-loop μ-loop
 returns c = search needs
 
-show-page-requires : tie.Need-show-page-requires
-show-page-requires c κs = sym (c .before .block-ok .ensures) ∙ not-false _ (c .if1 .left)
+loop-holds : tie.Need-loop-holds Inv-loop μ-loop
+loop-holds c = (sym (c .before .block-ok .ensures) ∙ not-false _ (c .if1 .left), omega arith)
 
-show-page-requires-2 : tie.Need-show-page-requires-2
-show-page-requires-2 c κs = sym (c .before .before .block-ok .ensures) ∙ not-false _ (c .before .if1 .left)
+array-read-show-page : tie.Need-array-read-show-page Inv-loop μ-loop
+array-read-show-page c = search needs
 
-show-page-requires-3 : tie.Need-show-page-requires-3
-show-page-requires-3 c κs = sym (c .before .before .before .block-ok .ensures) ∙ not-false _ (c .before .before .if1 .left)
+show-page-requires : tie.Need-show-page-requires Inv-loop μ-loop
+show-page-requires c κs = search needs
 
-show-page-requires-4 : tie.Need-show-page-requires-4
-show-page-requires-4 c κs = sym (c .before .before .before .before .block-ok .ensures) ∙ not-false _ (c .before .before .before .if1 .left)
+add-i : tie.Need-add-i Inv-loop μ-loop
+add-i c = search needs
 
-show-page-requires-5 : tie.Need-show-page-requires-5
-show-page-requires-5 c κs = sym (c .before .before .before .before .before .block-ok .ensures) ∙ not-false _ (c .before .before .before .before .if1 .left)
+loop-less : tie.Need-loop-less Inv-loop μ-loop
+loop-less c = search needs
 
-returns-2 : tie.Need-returns-2
+loop-again : tie.Need-loop-again Inv-loop μ-loop
+loop-again c = search needs
+
+returns-2 : tie.Need-returns-2 Inv-loop μ-loop
 returns-2 c = search needs
 
 pub show-all-spec : {M : Type 1} → statement M
 show-all-spec =
     tie.close
     (tie.spec
+    Inv-loop
+    μ-loop
     block-ok-requires
     slice-aggregate-write-all
     write-all-requires
     returns
+    loop-holds
+    array-read-show-page
     show-page-requires
-    show-page-requires-2
-    show-page-requires-3
-    show-page-requires-4
-    show-page-requires-5
+    add-i
+    loop-less
+    loop-again
     returns-2)
