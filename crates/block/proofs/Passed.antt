@@ -1,14 +1,15 @@
 -- What a block that passed question 3 is, as facts.
 -- Assumes nothing.
-use mathlib.Core.Path.{_≡_}
-use mathlib.Core.Bool.{true}
+use mathlib.Core.Path.{_≡_, sym, _∙_}
+use mathlib.Core.Bool.{Bool, true, false}
 use mathlib.Core.List.{List}
 use Prim.Native.Nat.{ℕ, zero, suc, _+_, _-_, _≤_, _<_}
 use native.Mathlib.Nat.{suc-add, zero-add}
 use native.Mathlib.Omega.{arith}
 use lib.Dec.{eqb, ltb}
 use lib.ListN.{length, drop, getD}
-use borrow.Author.Tests.{ltb-false, eqb-true}
+use borrow.Author.Tests.{le-ltb, ltb-false, eq-eqb, ne-eqb, eqb-true}
+use Rattle.area.specs.Pick.{pick}
 use Rattle.area.specs.Walk.{every}
 use Rattle.area.proofs.Pick.{no-yes, yes-no}
 use Rattle.area.proofs.Walk.{every-at}
@@ -41,6 +42,22 @@ passed x e =
       each = g .0;
       last = eqb-true (startOf x LISTS) (length x) (g .1);
     }
+
+-- What the code found of a header that is in order.
+module _ (x : List ℕ) (a : length x ≤ BLOCK-MOST) (h : HEAD ≤ length x) (f : getD x 0 0 ≤ 1) where
+  headed : blockOk x ≡ pick (eqb (getD x 1 0) 0) (pick (tableOk x) (listsOk x) false) false
+  unfolding blockOk
+  headed = rw (le-ltb BLOCK-MOST (length x) a, le-ltb (length x) HEAD h, le-ltb 1 (getD x 0 0) f)
+
+  pub no-gap : (getD x 1 0 ≡ 0 → ⊥) → false ≡ blockOk x
+  no-gap n = rw (headed, ne-eqb (getD x 1 0) 0 n)
+
+  module _ (g : getD x 1 0 ≡ 0) (t : Bool) (te : t ≡ tableOk x) where
+    pub no-table : t ≡ false → false ≡ blockOk x
+    no-table q = rw (headed, eq-eqb (getD x 1 0) 0 g, sym te ∙ q)
+
+    pub by-lists : t ≡ true → (r : Bool) → r ≡ listsOk x → r ≡ blockOk x
+    by-lists q r re = rw (headed, eq-eqb (getD x 1 0) 0 g, sym te ∙ q) re
 
 start-mono : (x : List ℕ) (j d : ℕ) → startOf x j ≤ startOf x (d + j)
 unfolding startOf

@@ -1,6 +1,7 @@
-use mathlib.Core.Path.{sym, _∙_}
-use borrow.Author.Tests.{lt-ltb, le-ltb, eq-eqb, ne-eqb, not-true, not-false}
+use native.Mathlib.Omega.{arith}
+use borrow.Author.Tests.{lt-ltb, le-ltb, not-true, not-false}
 use Rattle.block.specs.Block.{blockOk}
+use Rattle.block.proofs.Passed.{no-gap, no-table, by-lists}
 use borrow.Author.Needs.{needs}
 use Rattle.block.proofs.block_ok.Statement.{statement}
 use Rattle.block.proofs.block_ok.Tie as tie
@@ -24,22 +25,19 @@ shared-slice-read-if4 : tie.Need-shared-slice-read-if4
 shared-slice-read-if4 c = search needs
 
 returns-4 : tie.Need-returns-4
-unfolding blockOk
-returns-4 c = rw (le-ltb _ _ (c .before .before .before .before .before .if1 .left), le-ltb _ _ (c .before .before .before .before .if2 .left), le-ltb _ _ (c .before .before .if3 .left), ne-eqb _ _ (c .if4 .taken))
+returns-4 c = no-gap (c .before .before .before .before .before .before .before .args .block .now) (omega arith) (omega arith) (omega arith) (λ e. omega arith)
 
 table-ok-requires : tie.Need-table-ok-requires
 table-ok-requires c κs = search needs
 
 returns-5 : tie.Need-returns-5
-unfolding blockOk
-returns-5 c = rw (le-ltb _ _ (c .before .before .before .before .before .before .before .if1 .left), le-ltb _ _ (c .before .before .before .before .before .before .if2 .left), le-ltb _ _ (c .before .before .before .before .if3 .left), eq-eqb _ _ (c .before .before .if4 .left), sym (c .before .table-ok .ensures) ∙ not-true _ (c .if5 .taken))
+returns-5 c = no-table (c .before .before .before .before .before .before .before .before .before .args .block .now) (omega arith) (omega arith) (omega arith) (omega arith) _ (c .before .table-ok .ensures) (not-true _ (c .if5 .taken))
 
 lists-ok-requires : tie.Need-lists-ok-requires
 lists-ok-requires c κs = search needs
 
 returns-6 : tie.Need-returns-6
-unfolding blockOk
-returns-6 c = rw (le-ltb _ _ (c .before .before .before .before .before .before .before .before .if1 .left), le-ltb _ _ (c .before .before .before .before .before .before .before .if2 .left), le-ltb _ _ (c .before .before .before .before .before .if3 .left), eq-eqb _ _ (c .before .before .before .if4 .left), sym (c .before .before .table-ok .ensures) ∙ not-false _ (c .before .if5 .left)) (c .lists-ok .ensures)
+returns-6 c = by-lists (c .before .before .before .before .before .before .before .before .before .before .args .block .now) (omega arith) (omega arith) (omega arith) (omega arith) _ (c .before .before .table-ok .ensures) (not-false _ (c .before .if5 .left)) _ (c .lists-ok .ensures)
 
 pub block-ok-spec : {M : Type 1} → statement M
 block-ok-spec =
