@@ -19,6 +19,10 @@ use Rattle.block.specs.Block.{keyOf, numberOf, auxOf, lenOf, valOf, text
 abbrev pub Stride : (ℕ → Bool) → ℕ → List ℕ → ℕ → Type 0
 Stride p lo l r = r ≡ pick (entryOk p lo l) (16 + lenOf l) 0
 
+-- the code's part from 16 on to 16 and n
+pub part-size : (n : ℕ) → 16 + n - 16 ≡ n
+part-size n = omega arith
+
 -- What the code found, test after test: each stop is an entry that is none.
 module _ (p : ℕ → Bool) (lo : ℕ) (l : List ℕ) where
   pub no-short : length l < 16 → Stride p lo l 0
@@ -60,11 +64,9 @@ module _ (p : ℕ → Bool) (lo : ℕ) (l : List ℕ) where
             no-room d =
                 rw (le-ltb (length l) 16 h, le-ltb (keyOf l) lo (rw ke at a), pass ∙ q, fields ∙ g, len ∙ m, lt-ltb (length l - 16) (lenOf l) d)
 
-            module _ (d : lenOf l ≤ length l - 16) (w : Bool) (t : List ℕ) (we : w ≡ wellFormed t) (te : t ≡ take (16 + lenOf l - 16) (drop 16 l)) where
+            module _ (d : lenOf l ≤ length l - 16) (w : Bool) (t : List ℕ) (we : w ≡ wellFormed t) (te : t ≡ textOf l) where
               same : wellFormed (textOf l) ≡ w
-              same =
-                  let k : 16 + lenOf l - 16 ≡ lenOf l = omega arith in
-                  sym (we ∙ ap wellFormed (te ∙ ap (λ (n : ℕ). take n (drop 16 l)) k))
+              same = sym (we ∙ ap wellFormed te)
 
               pub no-text : w ≡ false → Stride p lo l 0
               unfolding entryOk

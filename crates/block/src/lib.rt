@@ -6,12 +6,6 @@ ghost use Rattle.area.specs.Pick.{pick};
 ghost use Rattle.block.specs.Maps.{lenOk, nonCharOk};
 ghost use Rattle.block.specs.Block.{lenOf, listKeyOk, entryOk, listOk, usedOf, tableOk, listsOk, blockOk, HEAD, BLOCK-MOST};
 
-fn wide(x: u8) -> usize
-    ensures { λ r. ⌜ (r ≡ x) × (r < 256) ⌝ }
-{
-    x as usize
-}
-
 fn len_ok(number: u16, len: u8) -> bool
     ensures { λ r. ⌜ r ≡ lenOk number len ⌝ }
 {
@@ -55,7 +49,7 @@ fn entry_len(l: &[u8], by_vkey: bool, lo: u64) -> usize
     if !len_ok(number, l[11]) {
         return 0;
     }
-    let n = wide(l[11]);
+    let n = l[11] as usize;
     if l.len() - 16 < n {
         return 0;
     }

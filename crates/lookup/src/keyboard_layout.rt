@@ -81,12 +81,6 @@ fn non_char_key(block: &[u8], vkey: u16) -> u16
 
 // ---- keys
 
-fn wide(x: u8) -> usize
-    ensures { λ r. ⌜ (r ≡ x) × (r < 256) ⌝ }
-{
-    x as usize
-}
-
 // Where list j starts.
 fn start_of(block: &[u8], j: usize) -> usize
     requires { ⌜ (HEAD ≤ length (now block)) × (j ≤ LISTS) ⌝ }
@@ -114,7 +108,7 @@ fn place(block: &[u8], by_vkey: bool, n: u16, start: usize, key: u64) -> usize
         if k == key {
             return at;
         }
-        at += 16 + wide(l[11]);
+        at += 16 + l[11] as usize;
         left -= 1;
     }
     0
@@ -141,7 +135,7 @@ fn found_at(block: &[u8], at: usize) -> LayoutKey
     LayoutKey {
         key,
         start: at + 16,
-        len: wide(block[at + 11]),
+        len: block[at + 11] as usize,
     }
 }
 

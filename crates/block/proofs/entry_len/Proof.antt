@@ -1,5 +1,6 @@
+use native.Mathlib.Omega.{arith}
 use borrow.Author.Tests.{not-true, not-false}
-use Rattle.block.proofs.Entry.{no-short, no-low, no-key, no-fields, no-len, no-room, no-text, entered}
+use Rattle.block.proofs.Entry.{part-size, no-short, no-low, no-key, no-fields, no-len, no-room, no-text, entered}
 use borrow.Author.Needs.{needs}
 use Rattle.block.proofs.entry_len.Statement.{statement}
 use Rattle.block.proofs.entry_len.Tie as tie
@@ -43,17 +44,17 @@ len-ok-requires c κs = search needs
 returns-5 : tie.Need-returns-5
 returns-5 c = no-len _ _ _ (c .before .before .before .before .before .before .before .before .before .before .before .before .if1 .left) _ (c .before .before .before .before .before .before .before .before .before .before .before .get-u64 .ensures) (c .before .before .before .before .before .before .before .before .before .before .if2 .left) _ (c .before .before .before .before .before .before .before .before .before .list-key-ok .ensures) (not-false _ (c .before .before .before .before .before .before .before .before .if3 .left)) _ _ _ (c .before .before .before .before .before .before .before .get-u16 .ensures) (c .before .before .before .before .before .before .get-u32 .ensures) (c .before .before .before .before .key-ok .ensures) (not-false _ (c .before .before .before .if4 .left)) _ (c .before .len-ok .ensures) (not-true _ (c .if5 .taken))
 
-shared-slice-read-wide : tie.Need-shared-slice-read-wide
-shared-slice-read-wide c = search needs
+shared-slice-read-n : tie.Need-shared-slice-read-n
+shared-slice-read-n c = search needs
 
-wide-requires : tie.Need-wide-requires
-wide-requires c κs = search needs
+cast-n : tie.Need-cast-n
+cast-n c = omega (arith, c .shared-slice-known4 .given 11)
 
 sub-if6 : tie.Need-sub-if6
 sub-if6 c = search needs
 
 returns-6 : tie.Need-returns-6
-returns-6 c = no-room _ _ _ (c .before .before .before .before .before .before .before .before .before .before .before .before .before .before .before .if1 .left) _ (c .before .before .before .before .before .before .before .before .before .before .before .before .before .before .get-u64 .ensures) (c .before .before .before .before .before .before .before .before .before .before .before .before .before .if2 .left) _ (c .before .before .before .before .before .before .before .before .before .before .before .before .list-key-ok .ensures) (not-false _ (c .before .before .before .before .before .before .before .before .before .before .before .if3 .left)) _ _ _ (c .before .before .before .before .before .before .before .before .before .before .get-u16 .ensures) (c .before .before .before .before .before .before .before .before .before .get-u32 .ensures) (c .before .before .before .before .before .before .before .key-ok .ensures) (not-false _ (c .before .before .before .before .before .before .if4 .left)) _ (c .before .before .before .before .len-ok .ensures) (not-false _ (c .before .before .before .if5 .left)) (rw (c .before .wide .ensures .0) at (c .if6 .taken))
+returns-6 c = no-room _ _ _ (c .before .before .before .before .before .before .before .before .before .before .before .before .before .before .if1 .left) _ (c .before .before .before .before .before .before .before .before .before .before .before .before .before .get-u64 .ensures) (c .before .before .before .before .before .before .before .before .before .before .before .before .if2 .left) _ (c .before .before .before .before .before .before .before .before .before .before .before .list-key-ok .ensures) (not-false _ (c .before .before .before .before .before .before .before .before .before .before .if3 .left)) _ _ _ (c .before .before .before .before .before .before .before .before .before .get-u16 .ensures) (c .before .before .before .before .before .before .before .before .get-u32 .ensures) (c .before .before .before .before .before .before .key-ok .ensures) (not-false _ (c .before .before .before .before .before .if4 .left)) _ (c .before .before .before .len-ok .ensures) (not-false _ (c .before .before .if5 .left)) (c .if6 .taken)
 
 add-e : tie.Need-add-e
 add-e c = search needs
@@ -71,10 +72,10 @@ well-formed-requires : tie.Need-well-formed-requires
 well-formed-requires c κs = search needs
 
 returns-7 : tie.Need-returns-7
-returns-7 c = no-text _ _ _ (c .before .before .before .before .before .before .before .before .before .before .before .before .before .before .before .before .before .before .if1 .left) _ (c .before .before .before .before .before .before .before .before .before .before .before .before .before .before .before .before .before .get-u64 .ensures) (c .before .before .before .before .before .before .before .before .before .before .before .before .before .before .before .before .if2 .left) _ (c .before .before .before .before .before .before .before .before .before .before .before .before .before .before .before .list-key-ok .ensures) (not-false _ (c .before .before .before .before .before .before .before .before .before .before .before .before .before .before .if3 .left)) _ _ _ (c .before .before .before .before .before .before .before .before .before .before .before .before .before .get-u16 .ensures) (c .before .before .before .before .before .before .before .before .before .before .before .before .get-u32 .ensures) (c .before .before .before .before .before .before .before .before .before .before .key-ok .ensures) (not-false _ (c .before .before .before .before .before .before .before .before .before .if4 .left)) _ (c .before .before .before .before .before .before .before .len-ok .ensures) (not-false _ (c .before .before .before .before .before .before .if5 .left)) (rw (c .before .before .before .before .wide .ensures .0) at (c .before .before .before .if6 .left)) _ _ (c .before .well-formed .ensures) (rw (c .before .before .before .before .wide .ensures .0)) (not-true _ (c .if7 .taken))
+returns-7 c = no-text _ _ _ (c .before .before .before .before .before .before .before .before .before .before .before .before .before .before .before .before .before .if1 .left) _ (c .before .before .before .before .before .before .before .before .before .before .before .before .before .before .before .before .get-u64 .ensures) (c .before .before .before .before .before .before .before .before .before .before .before .before .before .before .before .if2 .left) _ (c .before .before .before .before .before .before .before .before .before .before .before .before .before .before .list-key-ok .ensures) (not-false _ (c .before .before .before .before .before .before .before .before .before .before .before .before .before .if3 .left)) _ _ _ (c .before .before .before .before .before .before .before .before .before .before .before .before .get-u16 .ensures) (c .before .before .before .before .before .before .before .before .before .before .before .get-u32 .ensures) (c .before .before .before .before .before .before .before .before .before .key-ok .ensures) (not-false _ (c .before .before .before .before .before .before .before .before .if4 .left)) _ (c .before .before .before .before .before .before .len-ok .ensures) (not-false _ (c .before .before .before .before .before .if5 .left)) (c .before .before .before .if6 .left) _ _ (c .before .well-formed .ensures) (rw part-size) (not-true _ (c .if7 .taken))
 
 returns-8 : tie.Need-returns-8
-returns-8 c = rw (c .before .before .before .before .wide .ensures .0) (entered _ _ _ (c .before .before .before .before .before .before .before .before .before .before .before .before .before .before .before .before .before .before .if1 .left) _ (c .before .before .before .before .before .before .before .before .before .before .before .before .before .before .before .before .before .get-u64 .ensures) (c .before .before .before .before .before .before .before .before .before .before .before .before .before .before .before .before .if2 .left) _ (c .before .before .before .before .before .before .before .before .before .before .before .before .before .before .before .list-key-ok .ensures) (not-false _ (c .before .before .before .before .before .before .before .before .before .before .before .before .before .before .if3 .left)) _ _ _ (c .before .before .before .before .before .before .before .before .before .before .before .before .before .get-u16 .ensures) (c .before .before .before .before .before .before .before .before .before .before .before .before .get-u32 .ensures) (c .before .before .before .before .before .before .before .before .before .before .key-ok .ensures) (not-false _ (c .before .before .before .before .before .before .before .before .before .if4 .left)) _ (c .before .before .before .before .before .before .before .len-ok .ensures) (not-false _ (c .before .before .before .before .before .before .if5 .left)) (rw (c .before .before .before .before .wide .ensures .0) at (c .before .before .before .if6 .left)) _ _ (c .before .well-formed .ensures) (rw (c .before .before .before .before .wide .ensures .0)) (not-false _ (c .if7 .left)))
+returns-8 c = entered _ _ _ (c .before .before .before .before .before .before .before .before .before .before .before .before .before .before .before .before .before .if1 .left) _ (c .before .before .before .before .before .before .before .before .before .before .before .before .before .before .before .before .get-u64 .ensures) (c .before .before .before .before .before .before .before .before .before .before .before .before .before .before .before .if2 .left) _ (c .before .before .before .before .before .before .before .before .before .before .before .before .before .before .list-key-ok .ensures) (not-false _ (c .before .before .before .before .before .before .before .before .before .before .before .before .before .if3 .left)) _ _ _ (c .before .before .before .before .before .before .before .before .before .before .before .before .get-u16 .ensures) (c .before .before .before .before .before .before .before .before .before .before .before .get-u32 .ensures) (c .before .before .before .before .before .before .before .before .before .key-ok .ensures) (not-false _ (c .before .before .before .before .before .before .before .before .if4 .left)) _ (c .before .before .before .before .before .before .len-ok .ensures) (not-false _ (c .before .before .before .before .before .if5 .left)) (c .before .before .before .if6 .left) _ _ (c .before .well-formed .ensures) (rw part-size) (not-false _ (c .if7 .left))
 
 pub entry-len-spec : {M : Type 1} → statement M
 entry-len-spec =
@@ -93,8 +94,8 @@ entry-len-spec =
     shared-slice-read-len-ok
     len-ok-requires
     returns-5
-    shared-slice-read-wide
-    wide-requires
+    shared-slice-read-n
+    cast-n
     sub-if6
     returns-6
     add-e

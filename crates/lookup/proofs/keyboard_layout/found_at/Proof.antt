@@ -1,4 +1,6 @@
 use Rattle.lookup.specs.Layout.{foundAt}
+use Prim.Native.Nat.{_+_}
+use native.Mathlib.Omega.{arith}
 use borrow.Author.Needs.{needs}
 use Rattle.lookup.proofs.keyboard_layout.found_at.Statement.{statement}
 use Rattle.lookup.proofs.keyboard_layout.found_at.Tie as tie
@@ -27,18 +29,18 @@ key-at-requires c κs = search needs
 add-t6 : tie.Need-add-t6
 add-t6 c = search needs
 
-add-wide : tie.Need-add-wide
-add-wide c = search needs
+add-t9 : tie.Need-add-t9
+add-t9 c = search needs
 
-shared-slice-read-wide : tie.Need-shared-slice-read-wide
-shared-slice-read-wide c = search needs
+shared-slice-read-t8 : tie.Need-shared-slice-read-t8
+shared-slice-read-t8 c = search needs
 
-wide-requires : tie.Need-wide-requires
-wide-requires c κs = search needs
+cast-t11 : tie.Need-cast-t11
+cast-t11 c = omega (arith, c .shared-slice-known3 .given (c .before .before .before .before .before .before .args .at + 11))
 
 returns : tie.Need-returns
 unfolding foundAt
-returns c = rw (c .before .before .key-at .ensures, c .before .before .before .before .before .get-u16 .ensures, c .before .before .before .before .get-u32 .ensures, c .wide .ensures .0)
+returns c = rw (c .before .key-at .ensures, c .before .before .before .before .get-u16 .ensures, c .before .before .before .get-u32 .ensures)
 
 pub found-at-spec : {M : Type 1} → statement M
 found-at-spec =
@@ -52,7 +54,7 @@ found-at-spec =
     shared-slice-read-key-at
     key-at-requires
     add-t6
-    add-wide
-    shared-slice-read-wide
-    wide-requires
+    add-t9
+    shared-slice-read-t8
+    cast-t11
     returns)

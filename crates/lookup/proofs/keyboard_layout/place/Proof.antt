@@ -1,5 +1,4 @@
 use native.Mathlib.Omega.{arith}
-use borrow.Author.Needs.{needs}
 use mathlib.Core.Path.{refl, sym, _∙_}
 use Rattle.block.specs.Block.{listKeyOk}
 use Rattle.block.proofs.Find.{Walking, standing, walk-hit, walk-next, place-end}
@@ -30,17 +29,17 @@ get-u64-requires c κs = let s = standing _ _ _ _ _ _ _ (c .before .before .loop
 returns : tie.Need-returns Inv-loop μ-loop
 returns c = walk-hit _ _ _ _ _ _ _ (c .before .before .before .before .loop .inv) (c .before .before .before .loop-test .taken) _ (c .before .get-u64 .ensures) (c .if1 .taken)
 
-shared-slice-read-wide : tie.Need-shared-slice-read-wide Inv-loop μ-loop
-shared-slice-read-wide c = let s = standing _ _ _ _ _ _ _ (c .before .before .before .before .before .loop .inv) (c .before .before .before .before .loop-test .taken) in omega arith
+shared-slice-read-at : tie.Need-shared-slice-read-at Inv-loop μ-loop
+shared-slice-read-at c = let s = standing _ _ _ _ _ _ _ (c .before .before .before .before .before .loop .inv) (c .before .before .before .before .loop-test .taken) in omega arith
 
-wide-requires : tie.Need-wide-requires Inv-loop μ-loop
-wide-requires c κs = search needs
+cast-at : tie.Need-cast-at Inv-loop μ-loop
+cast-at c = let s = standing _ _ _ _ _ _ _ (c .before .before .before .before .before .loop .inv) (c .before .before .before .before .loop-test .taken) in omega arith
 
 add-at : tie.Need-add-at Inv-loop μ-loop
-add-at c = omega arith
+add-at c = let s = standing _ _ _ _ _ _ _ (c .before .before .before .before .before .loop .inv) (c .before .before .before .before .loop-test .taken) in omega arith
 
 add-at-2 : tie.Need-add-at-2 Inv-loop μ-loop
-add-at-2 c = let s = standing _ _ _ _ _ _ _ (c .before .before .before .before .before .before .loop .inv) (c .before .before .before .before .before .loop-test .taken) in omega arith
+add-at-2 c = let s = standing _ _ _ _ _ _ _ (c .before .before .before .before .before .loop .inv) (c .before .before .before .before .loop-test .taken) in omega arith
 
 sub-left : tie.Need-sub-left Inv-loop μ-loop
 sub-left c = omega arith
@@ -49,7 +48,7 @@ loop-less : tie.Need-loop-less Inv-loop μ-loop
 loop-less c = omega arith
 
 loop-again : tie.Need-loop-again Inv-loop μ-loop
-loop-again c = walk-next _ _ _ _ _ _ _ (c .before .before .before .before .before .before .loop .inv) (c .before .before .before .before .before .loop-test .taken) _ (c .before .before .before .get-u64 .ensures) (c .before .before .if1 .left) _ (c .wide .ensures .0)
+loop-again c = walk-next _ _ _ _ _ _ _ (c .before .before .before .before .before .loop .inv) (c .before .before .before .before .loop-test .taken) _ (c .before .before .get-u64 .ensures) (c .before .if1 .left) _ refl
 
 returns-2 : tie.Need-returns-2 Inv-loop μ-loop
 returns-2 c = sym (c .before .loop .inv .same ∙ place-end _ _ _ _ (c .loop-test .left))
@@ -66,8 +65,8 @@ place-spec =
     part-l-end
     get-u64-requires
     returns
-    shared-slice-read-wide
-    wide-requires
+    shared-slice-read-at
+    cast-at
     add-at
     add-at-2
     sub-left
