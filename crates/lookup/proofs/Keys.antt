@@ -64,8 +64,8 @@ module _ (x : List ℕ) (s : ℕ) (on : Bool) (vkey key j p : ℕ) (je : j ≡ p
   place-lock nz = rw (← lock-place, ne-eqb p 0 nz)
 
   pub place-code :
-      p ≡ 0 → (i k q : ℕ) → i ≡ s → k ≡ key → q ≡ placeIn x (2 + i) k → q ≡ placeFor x s on vkey key
-  place-code z i k q ie ke qe = rw (← lock-place, eq-eqb p 0 z, ← ie, ← ke) qe
+      p ≡ 0 → (i q : ℕ) → i ≡ s → q ≡ placeIn x (2 + i) key → q ≡ placeFor x s on vkey key
+  place-code z i q ie qe = rw (← lock-place, eq-eqb p 0 z, ← ie) qe
 
 -- a place that is the first of two that is not 0
 told :
@@ -137,7 +137,10 @@ module _ (x : List ℕ) (e : blockOk x ≡ true) (m : WindowsModifiers) (on : Bo
         by-neither w =
             rw (none-named, missed, by-number, found-none x (2 + bitsOf m) (codeKey code) coded b code-below refl w)
 
-      module _ (p : ℕ) (pe : p ≡ placeFor x (bitsOf m) on vkey (codeKey code)) where
+      module _ (key p : ℕ) (ke : key ≡ codeKey code) (ge : p ≡ placeFor x (bitsOf m) on vkey key) where
+        pe : p ≡ placeFor x (bitsOf m) on vkey (codeKey code)
+        pe = ge ∙ ap (λ (k : ℕ). placeFor x (bitsOf m) on vkey k) ke
+
         pub list-room : (p ≡ 0 → ⊥) → (p + 16 ≤ length x) × (length x ≤ BLOCK-MOST)
         list-room nz = (room, b .most)
           where

@@ -5,7 +5,6 @@ ghost use Prim.Native.Nat.{_+_, _≤_, _<_};
 ghost use lib.ListN.{length, drop};
 ghost use Rattle.area.specs.Pick.{pick};
 ghost use Rattle.block.specs.Block.{listKeyOk, listOk, cellAt, startOf, blockOk, mapsOf, placeOf, placeIn, HEAD, CELLS, LISTS, BLOCK-MOST};
-ghost use Rattle.listkey.specs.CodeKey.{codeKey};
 ghost use Rattle.keystroke.specs.Modifiers.{bitsOf};
 ghost use Rattle.lookup.specs.Layout.{nonCharKey, getKey, scanCodeFor, vkeyFor, partOf, keyIn, foundAt, placeFor};
 use keycode::KeyCode;
@@ -151,16 +150,16 @@ fn place_for(
     mods: WindowsModifiers,
     num_lock_on: bool,
     vkey: u16,
-    code: KeyCode,
+    key: u64,
 ) -> usize
     requires { ⌜ blockOk (now block) ≡ true ⌝ }
-    ensures { λ r. ⌜ r ≡ placeFor (now (block .entry)) (bitsOf mods) «num_lock_on» vkey (codeKey code) ⌝ }
+    ensures { λ r. ⌜ r ≡ placeFor (now (block .entry)) (bitsOf mods) «num_lock_on» vkey key ⌝ }
 {
     let p = place_in(block, num_lock_list(num_lock_on), vkey as u64);
     if p != 0 {
         return p;
     }
-    place_in(block, 2 + mods.bits(), listkey::code_key(code))
+    place_in(block, 2 + mods.bits(), key)
 }
 
 // tao's Layout::get_key. A virtual key above FF finds nothing in the first two lookups.
@@ -183,7 +182,7 @@ pub fn get_key(
             len: 0,
         };
     }
-    let p = place_for(block, mods, num_lock_on, vkey, code);
+    let p = place_for(block, mods, num_lock_on, vkey, listkey::code_key(code));
     if p != 0 {
         return found_at(block, p);
     }

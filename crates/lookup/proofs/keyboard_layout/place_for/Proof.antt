@@ -1,5 +1,4 @@
 use native.Mathlib.Omega.{arith}
-use Rattle.listkey.specs.CodeKey.{codeKey}
 use Rattle.keystroke.specs.Modifiers.{bitsOf}
 use Rattle.keystroke.proofs.Sets.{bits-below}
 use Rattle.lookup.proofs.Keys.{place-lock, place-code}
@@ -14,7 +13,7 @@ place-in-requires : tie.Need-place-in-requires
 place-in-requires c κs = (c .before .before .pre, c .num-lock-list .ensures .1)
 
 returns : tie.Need-returns
-returns c = place-lock (c .before .before .before .before .args .block .now) (bitsOf (c .before .before .before .before .args .mods)) (c .before .before .before .before .args .num-lock-on) (c .before .before .before .before .args .vkey) (codeKey (c .before .before .before .before .args .code)) _ _ (c .before .before .num-lock-list .ensures .0) (c .before .place-in .ensures) (c .if1 .taken)
+returns c = place-lock (c .before .before .before .before .args .block .now) (bitsOf (c .before .before .before .before .args .mods)) (c .before .before .before .before .args .num-lock-on) (c .before .before .before .before .args .vkey) (c .before .before .before .before .args .key) _ _ (c .before .before .num-lock-list .ensures .0) (c .before .place-in .ensures) (c .if1 .taken)
 
 bits-requires : tie.Need-bits-requires
 bits-requires c κs = search needs
@@ -22,14 +21,11 @@ bits-requires c κs = search needs
 add-place-in : tie.Need-add-place-in
 add-place-in c = let h = bits-below (c .before .before .before .before .before .args .mods) in omega (arith, c .bits .ensures)
 
-code-key-requires : tie.Need-code-key-requires
-code-key-requires c κs = search needs
-
 place-in-requires-2 : tie.Need-place-in-requires-2
-place-in-requires-2 c κs = let h = bits-below (c .before .before .before .before .before .before .args .mods) in (c .before .before .before .before .before .before .pre, omega (arith, c .before .bits .ensures))
+place-in-requires-2 c κs = let h = bits-below (c .before .before .before .before .before .args .mods) in (c .before .before .before .before .before .pre, omega (arith, c .bits .ensures))
 
 returns-2 : tie.Need-returns-2
-returns-2 c = place-code (c .before .before .before .before .before .before .before .args .block .now) (bitsOf (c .before .before .before .before .before .before .before .args .mods)) (c .before .before .before .before .before .before .before .args .num-lock-on) (c .before .before .before .before .before .before .before .args .vkey) (codeKey (c .before .before .before .before .before .before .before .args .code)) _ _ (c .before .before .before .before .before .num-lock-list .ensures .0) (c .before .before .before .before .place-in .ensures) (c .before .before .before .if1 .left) _ _ _ (c .before .before .bits .ensures) (c .before .code-key .ensures) (c .place-in2 .ensures)
+returns-2 c = place-code (c .before .before .before .before .before .before .args .block .now) (bitsOf (c .before .before .before .before .before .before .args .mods)) (c .before .before .before .before .before .before .args .num-lock-on) (c .before .before .before .before .before .before .args .vkey) (c .before .before .before .before .before .before .args .key) _ _ (c .before .before .before .before .num-lock-list .ensures .0) (c .before .before .before .place-in .ensures) (c .before .before .if1 .left) _ _ (c .before .bits .ensures) (c .place-in2 .ensures)
 
 pub place-for-spec : {M : Type 1} → statement M
 place-for-spec =
@@ -40,6 +36,5 @@ place-for-spec =
     returns
     bits-requires
     add-place-in
-    code-key-requires
     place-in-requires-2
     returns-2)
