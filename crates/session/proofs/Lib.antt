@@ -1,0 +1,14 @@
+pub mod Lists
+pub mod Codec
+pub mod Area
+pub mod Ranges
+pub mod Fits
+pub mod Laws
+pub mod Queue
+pub mod Sorts
+pub mod Steps
+pub mod Kept
+pub mod Runs
+pub mod Rising
+pub mod Demand3
+pub mod Corollaries

@@ -1,0 +1,185 @@
+-- The events that messages complete: PartialKeyEventInfo::from_message and finalize, and is_current_fake, of tao's keyboard.rs.
+-- Assumes nothing.
+use Prim.Native.Nat.{ℕ}
+use mathlib.Core.Bool.{Bool, true, false, not, _&&_}
+use mathlib.Core.List.{List, [], _∷_, _++_}
+use mathlib.Core.Option.{Option, some, none}
+use lib.Dec.{eqb}
+use Rattle.area.specs.Pick.{pick}
+use Rattle.area.specs.Look.{lookup}
+use Rattle.text.specs.Unicode.{textOf, utf8Of}
+use Rattle.text.specs.Pieces.{severalIn}
+use Rattle.keys.specs.Places.{control, numLock, pause}
+use Rattle.keys.specs.Text.{FullKey, named, character, unidentified, dead, deadChar, toText}
+use Rattle.keys.specs.declared.KeyLocation.{KeyLocation}
+use Rattle.keys.specs.declared.NativeKeyCode.the-variants as native
+use Rattle.keycode.specs.declared.KeyCode.{KeyCode}
+use Rattle.keycode.specs.declared.KeyCode.the-variants as code
+use Rattle.keycode.specs.Number.{codeNumber}
+use Rattle.scancode.specs.Codes.{keyCodeOf}
+use Rattle.keystroke.specs.LParam.{exScancodeOf}
+use Rattle.keystroke.specs.Modifiers.{activeModifiers, removeOnlyCtrl, bitsOf, numLockOn}
+use Rattle.keystroke.specs.declared.KeyLParam.{KeyLParam}
+use Rattle.keystroke.specs.declared.WindowsModifiers.{WindowsModifiers}
+use Rattle.block.specs.Maps.{Maps}
+use Rattle.block.specs.Block.{mapsOf}
+use Rattle.lookup.specs.Layout.{getKey, messageScancode, orElse}
+use Rattle.lookup.specs.Location.{locationOf}
+use Rattle.session.specs.Given.{Message, Inputs}
+use Rattle.session.specs.Event.{Event, Info, Held}
+use Rattle.session.specs.declared.ElementState.{ElementState}
+use Rattle.session.specs.declared.ElementState.the-variants.{Pressed, Released}
+
+-- ---- what a call's inputs say
+
+-- a keyboard at one moment: the layout and the state of the keys
+pub record Keyboard : Type 0 where
+  pub layout : Maps
+  pub keyState : List ℕ
+
+-- the layout that the block stands for
+unfoldable pub keyboardOf : Inputs → Keyboard
+keyboardOf i = record { layout = mapsOf (i .block); keyState = i .keyState }
+
+abbrev pub modifiersIn : Keyboard → WindowsModifiers
+modifiersIn k = activeModifiers (k .keyState)
+
+-- the layout's key, Control removed unless Alt is on
+unfoldable pub layoutKey : Keyboard → ℕ → ℕ → FullKey
+layoutKey b vkey scancode =
+    getKey (b .layout) (bitsOf (removeOnlyCtrl (modifiersIn b))) (numLockOn (b .keyState)) vkey scancode (keyCodeOf scancode)
+
+-- the layout's key without modifiers: always by the Num Lock off list
+unfoldable pub plainKey : Keyboard → ℕ → ℕ → FullKey
+plainKey b vkey scancode = getKey (b .layout) 0 false vkey scancode (keyCodeOf scancode)
+
+-- ---- from_message
+
+-- "With Control on, the codes NumLock and Pause are the keys of those names, as logical key and without modifiers, in presses and releases."
+unfoldable pub codeAsKey : Bool → KeyCode → Option FullKey
+codeAsKey false c = none
+codeAsKey true c =
+    lookup ((codeNumber code.NumLock, some (named numLock)) ∷ (codeNumber code.Pause, some (named pause)) ∷ []) none (codeNumber c)
+
+unfoldable pub forcedKey : Keyboard → ℕ → Option FullKey
+forcedKey b scancode = codeAsKey (modifiersIn b .control) (keyCodeOf scancode)
+
+-- "A dead key without modifiers becomes its character (unidentified if it has none) in a press or release"
+unfoldable pub undead : FullKey → FullKey
+undead (named n) = named n
+undead (character t) = character t
+undead (unidentified c) = unidentified c
+undead dead = unidentified native.Unidentified
+undead (deadChar c) = character (utf8Of c)
+
+-- what a press or a release of a virtual key is, read from layout and key state
+unfoldable pub fromMessage : Keyboard → ℕ → KeyLParam → Info
+fromMessage b vkey l =
+    let scancode : ℕ = messageScancode (b .layout) vkey l in
+    record {
+      scancode = scancode;
+      repeat = l .«is_repeat»;
+      location = locationOf (b .layout) scancode;
+      logicalKey = orElse (forcedKey b scancode) (layoutKey b vkey scancode);
+      keyWithoutModifiers = orElse (forcedKey b scancode) (undead (plainKey b vkey scancode));
+    }
+
+unfoldable pub isCharacter : FullKey → Bool
+isCharacter (named n) = false
+isCharacter (character t) = true
+isCharacter (unidentified c) = false
+isCharacter dead = false
+isCharacter (deadChar c) = false
+
+-- a press's typed text may become its logical key: the layout's answer is a character and Control is off
+-- (NumLock and Pause are forced only with Control on)
+unfoldable pub markOf : Keyboard → Info → Bool
+markOf b n = isCharacter (n .logicalKey) && not (modifiersIn b .control)
+
+-- the press as it is held at its finish, with no units yet
+unfoldable pub heldOf : Keyboard → ℕ → KeyLParam → Held
+heldOf b vkey l =
+    let n : Info = fromMessage b vkey l in record { info = n; vkey = vkey; mark = markOf b n; units = [] }
+
+-- a held press with the units of character messages added
+unfoldable pub withUnits : Held → List ℕ → Held
+withUnits h us = record { info = h .info; vkey = h .vkey; mark = h .mark; units = h .units ++ us }
+
+-- ---- finalize
+
+-- "Unpaired surrogates give no text", and no unit gives none
+unfoldable pub typedText : List ℕ → Option (List ℕ)
+typedText [] = none
+typedText (u ∷ us) = textOf (u ∷ us)
+
+-- "A typed character becomes the logical key unless it has several pieces; then the layout key stands."
+-- Without a text the key is unidentified, with its scan code.
+unfoldable pub typedKey : FullKey → ℕ → Option (List ℕ) → FullKey
+typedKey layout scancode none = unidentified (native.Windows scancode)
+typedKey layout scancode (some t) = pick (severalIn t) layout (character t)
+
+-- the event of a press, with its text and the text with all modifiers
+unfoldable pub finalize : Held → Option (List ℕ) → Option (List ℕ) → Event
+finalize h text all =
+    record {
+      physicalKey = keyCodeOf (h .info .scancode);
+      logicalKey = pick (h .mark) (typedKey (h .info .logicalKey) (h .info .scancode) text) (h .info .logicalKey);
+      text = text;
+      location = h .info .location;
+      state = Pressed;
+      repeat = h .info .repeat;
+      synthetic = false;
+      textWithAllModifiers = all;
+      keyWithoutModifiers = h .info .keyWithoutModifiers;
+    }
+
+-- the event of a press that no character message follows
+unfoldable pub pressEvent : Held → Event
+pressEvent h = finalize h none none
+
+-- the event that a dead character message completes: the text that was typed before it is only that with all modifiers
+unfoldable pub deadCharEvent : Held → Event
+deadCharEvent h = finalize h none (typedText (h .units))
+
+-- "At the last character, Control counts only without Alt on AltGr layouts."
+unfoldable pub controlCounts : Keyboard → Bool
+controlCounts b =
+    pick (b .layout .hasAltGraph) (modifiersIn b .control && not (modifiersIn b .alt)) (modifiersIn b .control)
+
+-- "If it counts, text comes from the layout with Control removed (unless Alt is on)."
+unfoldable pub lastText : Keyboard → Held → Option (List ℕ)
+lastText b h =
+    pick (controlCounts b) (toText (layoutKey b (h .vkey) (h .info .scancode))) (typedText (h .units))
+
+-- the event that the last character message completes: "Text with all modifiers is the typed units"
+unfoldable pub charEvent : Keyboard → Held → Event
+charEvent b h = finalize h (lastText b h) (typedText (h .units))
+
+-- a release has no texts
+unfoldable pub releaseEvent : Info → Event
+releaseEvent n =
+    record {
+      physicalKey = keyCodeOf (n .scancode);
+      logicalKey = n .logicalKey;
+      text = none;
+      location = n .location;
+      state = Released;
+      repeat = n .repeat;
+      synthetic = false;
+      textWithAllModifiers = none;
+      keyWithoutModifiers = n .keyWithoutModifiers;
+    }
+
+-- ---- is_current_fake
+
+unfoldable pub isControl : FullKey → Bool
+isControl (named n) = eqb n control
+isControl (character t) = false
+isControl (unidentified c) = false
+isControl dead = false
+isControl (deadChar c) = false
+
+-- "Fake means: AltGr flag set, logical key Control, next scan code E038, read from the peeked lParam alone."
+unfoldable pub fake : Keyboard → Info → Option Message → Bool
+fake b n none = false
+fake b n (some m) = b .layout .hasAltGraph && (isControl (n .logicalKey) && eqb (exScancodeOf (m .lparam)) 0xE038)

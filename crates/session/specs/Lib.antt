@@ -1,0 +1,16 @@
+pub mod Limits
+pub mod Given
+pub mod Event
+pub mod Types
+pub mod Builder
+pub mod Focus
+pub mod Session
+pub mod Codec
+pub mod Area
+pub mod Calls
+pub mod Questions
+pub mod Answers
+pub mod Book
+pub mod Run
+pub mod Demand3
+pub mod Corollaries

@@ -1,0 +1,90 @@
+// What the calls answer, as types: key events, the held press, tokens, message results, refusals. No code runs here;
+// specs/ says what open and finish answer.
+use keycode::KeyCode;
+use keys::Key;
+use keys::KeyLocation;
+
+// A text in UTF-8, zeros behind; of length 0 where there is none.
+pub struct Text {
+    pub bytes: [u8; 48],
+    pub len: u8,
+}
+
+// A key and its text, which a character has and no other key.
+pub struct TextKey {
+    pub key: Key,
+    pub text: Text,
+}
+
+// tao's ElementState (event.rs).
+pub enum ElementState {
+    Pressed,
+    Released,
+}
+
+// tao's KeyEvent (event.rs) with KeyEventExtra's two fields, the last two, and MessageAsKeyEvent's is_synthetic.
+pub struct KeyEvent {
+    pub physical_key: KeyCode,
+    pub logical_key: TextKey,
+    pub text: Text,
+    pub location: KeyLocation,
+    pub state: ElementState,
+    pub repeat: bool,
+    pub is_synthetic: bool,
+    pub text_with_all_modifiers: Text,
+    pub key_without_modifiers: TextKey,
+}
+
+// What tao's PartialKeyEventInfo holds for presses and releases alike; the key code is the scan code's.
+pub struct PartialKeyEventInfo {
+    pub scancode: u16,
+    pub is_repeat: bool,
+    pub location: KeyLocation,
+    pub logical_key: TextKey,
+    pub key_without_modifiers: TextKey,
+}
+
+// A press whose text is still coming. The mark is tao's PartialLogicalKey::TextOr: a typed text may become the logical key.
+pub struct HeldPress {
+    pub info: PartialKeyEventInfo,
+    pub vkey: u16,
+    pub mark: bool,
+    pub units: [u16; 16],
+    pub len: u8,
+}
+
+// tao's ProcResult (event_loop.rs): what the window procedure returns, an LRESULT or the default procedure's.
+pub enum ProcResult {
+    DefWindowProc,
+    Value(i64),
+}
+
+// tao's PendingMessageToken: a number of its own type, so that no place in the queue can be passed for it.
+pub struct PendingMessageToken(pub u32);
+
+// Why a call is refused, in the order of document 01's questions.
+pub enum Refusal {
+    AreaSize,
+    KeyStateSize,
+    Block,
+    Session,
+    NothingHeld,
+    TooManyOpen,
+    QueueFull,
+    TokensUsed,
+    TooManyUnits,
+    NotLatest,
+}
+
+// What an open answers.
+pub enum OpenAnswer {
+    Refused(Refusal),
+    Opened(PendingMessageToken),
+    OpenedNone,
+}
+
+// What a finish answers.
+pub enum FinishAnswer {
+    Refused(Refusal),
+    Finished,
+}
