@@ -1,7 +1,9 @@
-//! Writes the data files and the expected outputs of the programs under crates/, or compares them.
+//! Writes the data files and the expected outputs of the programs under crates/ and the worked examples of
+//! crates/examples, or compares them.
 //! tao gives every answer but those on texts, which Rust's standard library gives.
 use std::{env, fs, path::Path, process::ExitCode};
 
+mod examples;
 mod keyboard;
 mod locations;
 mod scancodes;
@@ -20,6 +22,7 @@ fn files() -> Vec<File> {
     ("crates/keyboard/data/us.block", keyboard::block(&us)),
     ("crates/keyboard/stdout", keyboard::output(&us).into()),
     ("crates/texts/stdout", texts::output().into()),
+    ("crates/examples/specs/Expected.antt", examples::output().into()),
   ]
 }
 

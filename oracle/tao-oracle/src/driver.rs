@@ -232,9 +232,9 @@ impl<'a> Driver<'a> {
             None => false,
             Some(p) => {
               msg.message = p.kind;
+              msg.wParam = WPARAM(p.wparam as usize);
               msg.lParam = LPARAM(p.lparam as isize);
-              // Nothing may depend on these.
-              msg.wParam = WPARAM(0x5A5A_5A5A);
+              // Nothing may depend on this.
               msg.time = 0x5A5A;
               true
             }

@@ -120,6 +120,7 @@ impl LayoutSpec {
 #[derive(Clone, Copy, PartialEq, Eq, Debug)]
 pub struct Peeked {
   pub kind: u32,
+  pub wparam: u64,
   pub lparam: u64,
 }
 

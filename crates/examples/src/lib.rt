@@ -1,0 +1,1 @@
+// Worked examples: calls, and what the definitions of session answer to them. No function.
