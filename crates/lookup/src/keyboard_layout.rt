@@ -145,13 +145,7 @@ fn num_lock_list(num_lock_on: bool) -> usize
 }
 
 // Where the entry of a key stands: in the Num Lock list, else in the list of the modifiers; 0 where neither has one.
-fn place_for(
-    block: &[u8],
-    mods: WindowsModifiers,
-    num_lock_on: bool,
-    vkey: u16,
-    key: u64,
-) -> usize
+fn place_for(block: &[u8], mods: WindowsModifiers, num_lock_on: bool, vkey: u16, key: u64) -> usize
     requires { ⌜ blockOk (now block) ≡ true ⌝ }
     ensures { λ r. ⌜ r ≡ placeFor (now (block .entry)) (bitsOf mods) «num_lock_on» vkey key ⌝ }
 {
