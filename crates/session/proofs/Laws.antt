@@ -6,6 +6,7 @@ use mathlib.Core.Bool.{Bool, true, false, _&&_}
 use mathlib.Core.List.{List, [], _∷_, _++_}
 use mathlib.Core.Option.{Option, some, none}
 use Prim.Native.Nat.{ℕ, suc, _+_}
+use lib.Dec.{eqb}
 use lib.ListN.{length}
 use Rattle.area.specs.Pick.{pick}
 use Rattle.text.specs.Message.{charUnits}
@@ -15,10 +16,10 @@ use Rattle.session.specs.Given.{Message, Inputs, Given, brought, finishe
 use Rattle.session.specs.Event.{Event, Info, Held}
 use Rattle.session.specs.Builder.{Keyboard, keyboardOf, fromMessage, heldOf, withUnits, pressEvent, deadCharEvent, charEvent, releaseEvent, fake}
 use Rattle.session.specs.Focus.{focusEvents}
-use Rattle.session.specs.Session.{Wait, press, release, character, Entry, waiting, complete, Session}
+use Rattle.session.specs.Session.{Wait, press, release, character, Entry, waiting, complete, Session, tokenOf}
 use Rattle.session.specs.Calls.{keyDown, keyUp, char, deadChar, ignored, focus, sortOf, Effect, nothingDone, opening, numbered, behind, charOpened, deadCharAnswered, messageEffect, holds, moreComing, finishEvent, finishHeld, findWait, inPlace, resolve, isFirst, drain, resolved, finishEffect, effectOf}
 use Rattle.session.specs.Questions.{opens, question6}
-use Rattle.session.specs.Book.{Arrival, Press, Book, noteIn, heldPress, finishCharacter, bookMessage, bookFinish, bookStep}
+use Rattle.session.specs.Book.{Arrival, Press, Note, Book, noteIn, heldPress, finishCharacter, bookMessage, bookFinish, bookStep}
 use Rattle.session.specs.declared.ElementState.{ElementState}
 
 -- ---- a call
@@ -67,14 +68,14 @@ unfolding messageEffect
 dead-effect s b m = refl
 
 focus-behind :
-    (s : Session) (b : Keyboard) (m : Message) (st : ElementState) (es : List Event) → focusEvents b st ≡ es →
-    messageEffect s b m (focus st) ≡ behind s es (s .held) (s .entries)
+    (s : Session) (b : Keyboard) (m : Message) (st : ElementState) (f : Effect) → behind s (focusEvents b st) (s .held) (s .entries) ≡ f →
+    messageEffect s b m (focus st) ≡ f
 unfolding messageEffect
-focus-behind s b m st es e = rw e refl
+focus-behind s b m st f e = rw e refl
 
 pub focus-effect :
     (s : Session) (b : Keyboard) (m : Message) (st : ElementState) → messageEffect s b m (focus st) ≡ behind s (focusEvents b st) (s .held) (s .entries)
-focus-effect s b m st = focus-behind s b m st (focusEvents b st) refl
+focus-effect s b m st = focus-behind s b m st (behind s (focusEvents b st) (s .held) (s .entries)) refl
 
 pub ignored-effect : (s : Session) (b : Keyboard) (m : Message) → messageEffect s b m ignored ≡ nothingDone s
 unfolding messageEffect
@@ -97,17 +98,28 @@ pub finish-lost : (s : Session) (b : Keyboard) (t : ℕ) (p : Option Message) �
 unfolding finishEffect
 finish-lost s b t p = refl
 
+first-resolved :
+    (s : Session) (t : ℕ) (o : Option Event) (h : Option Held) (es : List Event) → drain (resolve t o (s .entries)) ≡ es →
+    resolved true s t o h ≡ record { token = none; events = es; after = record { handed = 0; entries = []; held = h } }
+unfolding resolved
+first-resolved s t o h es e = rw e refl
+
 pub resolved-first :
     (s : Session) (t : ℕ) (o : Option Event) (h : Option Held) →
     resolved true s t o h ≡ record { token = none; events = drain (resolve t o (s .entries)); after = record { handed = 0; entries = []; held = h } }
-unfolding resolved
-resolved-first s t o h = refl
+resolved-first s t o h = first-resolved s t o h (drain (resolve t o (s .entries))) refl
+
+later-resolved :
+    (s : Session) (t : ℕ) (o : Option Event) (h : Option Held) (r : List Entry) → resolve t o (s .entries) ≡ r →
+    resolved false s t o h ≡ record { token = none; events = []; after = record { handed = s .handed; entries = r; held = h } }
+unfolding resolved drain inPlace
+later-resolved s t none h r e = rw e refl
+later-resolved s t (some v) h r e = rw e refl
 
 pub resolved-later :
     (s : Session) (t : ℕ) (o : Option Event) (h : Option Held) →
     resolved false s t o h ≡ record { token = none; events = []; after = record { handed = s .handed; entries = resolve t o (s .entries); held = h } }
-unfolding resolved
-resolved-later s t o h = refl
+resolved-later s t o h = later-resolved s t o h (resolve t o (s .entries)) refl
 
 pub event-press :
     (b : Keyboard) (h : Option Held) (vkey : ℕ) (l : KeyLParam) (p : Option Message) →
@@ -160,15 +172,15 @@ unfolding finishCharacter
 last-none b os n i = refl
 
 last-noted :
-    (h : Press) (b : Book) (os : List Arrival) (n : ℕ) (i : Inputs) (e : Event) → charEvent (keyboardOf i) (heldPress h) ≡ e →
-    finishCharacter false (some h) b os n i ≡ record { opened = os; held = none; count = b .count; noted = noteIn n e (b .noted) }
+    (h : Press) (b : Book) (os : List Arrival) (n : ℕ) (i : Inputs) (e : Event) (l : List Note) → charEvent (keyboardOf i) (heldPress h) ≡ e → noteIn n e (b .noted) ≡ l →
+    finishCharacter false (some h) b os n i ≡ record { opened = os; held = none; count = b .count; noted = l }
 unfolding finishCharacter
-last-noted h b os n i e q = rw q refl
+last-noted h b os n i e l q f = rw (q, f) refl
 
 pub last-some :
     (h : Press) (b : Book) (os : List Arrival) (n : ℕ) (i : Inputs) →
     finishCharacter false (some h) b os n i ≡ record { opened = os; held = none; count = b .count; noted = noteIn n (charEvent (keyboardOf i) (heldPress h)) (b .noted) }
-last-some h b os n i = last-noted h b os n i (charEvent (keyboardOf i) (heldPress h)) refl
+last-some h b os n i = last-noted h b os n i (charEvent (keyboardOf i) (heldPress h)) (noteIn n (charEvent (keyboardOf i) (heldPress h)) (b .noted)) refl refl
 
 -- ---- the queue
 
@@ -180,12 +192,27 @@ pub place-some : (t : ℕ) (e : Event) (r : List Entry) → inPlace t (some e) r
 unfolding inPlace
 place-some t e r = refl
 
+first-by : (t : ℕ) (x : Entry) (r : List Entry) (b : Bool) → eqb t (tokenOf x) ≡ b → isFirst t (x ∷ r) ≡ b
+unfolding isFirst
+first-by t x r b e = rw e refl
+
+pub first-is : (t : ℕ) (x : Entry) (r : List Entry) → isFirst t (x ∷ r) ≡ eqb t (tokenOf x)
+first-is t x r = first-by t x r (eqb t (tokenOf x)) refl
+
 -- ---- question 6 is put to what opens a message: not to a focus message or a dead character, whatever is open
 
+focus-opens : (s : Session) (st : ElementState) → opens s (focus st) ≡ false
+unfolding opens
+focus-opens s st = refl
+
 pub focus-unasked : (s : Session) (st : ElementState) → question6 s (focus st) ≡ true
-unfolding question6 opens
-focus-unasked s st = refl
+unfolding question6
+focus-unasked s st = rw (focus-opens s st) refl
+
+dead-opens : (s : Session) → opens s deadChar ≡ false
+unfolding opens
+dead-opens s = refl
 
 pub dead-unasked : (s : Session) → question6 s deadChar ≡ true
-unfolding question6 opens
-dead-unasked s = refl
+unfolding question6
+dead-unasked s = rw (dead-opens s) refl

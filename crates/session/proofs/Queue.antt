@@ -18,7 +18,7 @@ use Rattle.session.specs.Calls.{Effect, opening, numbered, behind, findW
 use Rattle.session.specs.Questions.{lastToken}
 use Rattle.session.specs.Book.{Arrival, Press, Note, Book, pressKind, releaseKind, infoOf, noteIn, noteAll, heldPress}
 use Rattle.session.proofs.Lists.{All, all-map, all-append}
-use Rattle.session.proofs.Laws.{place-none, place-some}
+use Rattle.session.proofs.Laws.{place-none, place-some, first-is}
 
 -- ---- the stack
 
@@ -165,13 +165,11 @@ resolve-at [] B t w o a = rw (eq-eqb t t refl)
 resolve-at (x ∷ A) B t w o a = rw (ne-eqb t (tokenOf x) (λ e. omega arith)) (ap (λ r. x ∷ r) (resolve-at A B t w o (a .1)))
 
 pub not-first : (A B C : List Entry) (x : Entry) (t : ℕ) → All (λ x. tokenOf x < t) (A ++ (x ∷ B)) → isFirst t ((A ++ (x ∷ B)) ++ C) ≡ false
-unfolding isFirst
-not-first [] B C x t a = ne-eqb t (tokenOf x) (λ e. omega arith)
-not-first (y ∷ A) B C x t a = ne-eqb t (tokenOf y) (λ e. omega arith)
+not-first [] B C x t a = first-is t x (B ++ C) ∙ ne-eqb t (tokenOf x) (λ e. omega arith)
+not-first (y ∷ A) B C x t a = first-is t y ((A ++ (x ∷ B)) ++ C) ∙ ne-eqb t (tokenOf y) (λ e. omega arith)
 
 pub is-first : (t : ℕ) (w : Wait) (B : List Entry) → isFirst t (waiting t w ∷ B) ≡ true
-unfolding isFirst
-is-first t w B = eq-eqb t t refl
+is-first t w B = first-is t (waiting t w) B ∙ eq-eqb t t refl
 
 pub behind-at :
     (s : Session) (es : List Event) (h : Option Held) (A B : List Entry) (x : Entry) →

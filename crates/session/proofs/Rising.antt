@@ -4,7 +4,7 @@ use mathlib.Core.Path.{_≡_, refl}
 use mathlib.Core.Bool.{Bool, true, false, _||_}
 use mathlib.Core.List.{List, [], _∷_}
 use mathlib.Core.Option.{Option, some, none}
-use Prim.Native.Nat.{ℕ, _≤_}
+use Prim.Native.Nat.{ℕ, _≤_, zero-le}
 use native.Mathlib.Omega.{arith}
 use lib.Dec.{leb, eqb}
 use borrow.Author.Tests.{leb-true, leb-false}
@@ -70,7 +70,7 @@ char-finished : (x : Bool) (p : Option Press) (b : Book) (os : List Arrival) (n 
 unfolding finishCharacter
 char-finished true p b os n i r = r
 char-finished false none b os n i r = r
-char-finished false (some h) b os n i r = note-rises 0 n _ (b .noted) (omega arith) r
+char-finished false (some h) b os n i r = note-rises 0 _ _ (b .noted) zero-le r
 
 finish-noted : (b : Book) (i : Inputs) (p : Option Message) (l : List Arrival) → Ordered b → Ordered (bookFinish b i p l)
 unfolding bookFinish finishPress finishRelease

@@ -1,21 +1,20 @@
--- What a call answers, on sessions: the questions 5 to 10, and what an answered call does.
+-- What an answered call does, on sessions: the token, the events handed out, the session after.
 -- Assumes nothing.
-use Prim.Native.Nat.{ℕ, zero, suc, _+_}
-use mathlib.Core.Bool.{Bool, true, false, not, _&&_}
+use Prim.Native.Nat.{ℕ, suc, _+_}
+use mathlib.Core.Bool.{Bool, true, false}
 use mathlib.Core.List.{List, [], _∷_, _++_}
 use mathlib.Core.Option.{Option, some, none}
-use lib.Dec.{eqb, ltb, leb}
+use lib.Dec.{eqb}
 use lib.ListN.{length}
 use Rattle.area.specs.Pick.{pick}
 use Rattle.area.specs.Look.{lookup}
 use Rattle.text.specs.Message.{charUnits}
 use Rattle.keystroke.specs.LParam.{keyLParam, virtualKey}
-use Rattle.session.specs.Limits.{OPEN-MOST, ENTRIES-MOST, TOKENS-MOST, UNITS-MOST}
-use Rattle.session.specs.Given.{Message, Inputs, Given, brought, finished, WM-SETFOCUS, WM-KILLFOCUS, WM-KEYDOWN, WM-KEYUP, WM-CHAR, WM-DEADCHAR, WM-SYSKEYDOWN, WM-SYSKEYUP, WM-SYSCHAR, WM-SYSDEADCHAR, VK-F4}
+use Rattle.session.specs.Given.{Message, Given, brought, finished, WM-SETFOCUS, WM-KILLFOCUS, WM-KEYDOWN, WM-KEYUP, WM-CHAR, WM-DEADCHAR, WM-SYSKEYDOWN, WM-SYSKEYUP, WM-SYSCHAR, WM-SYSDEADCHAR, VK-F4}
 use Rattle.session.specs.Event.{Event, Info, Held}
 use Rattle.session.specs.Builder.{Keyboard, keyboardOf, fromMessage, heldOf, withUnits, pressEvent, deadCharEvent, charEvent, releaseEvent, fake}
 use Rattle.session.specs.Focus.{focusEvents}
-use Rattle.session.specs.Session.{Wait, press, release, character, Entry, waiting, complete, Session, tokenOf, openCount}
+use Rattle.session.specs.Session.{Wait, press, release, character, Entry, waiting, complete, Session, tokenOf}
 use Rattle.session.specs.declared.ElementState.{ElementState}
 use Rattle.session.specs.declared.ElementState.the-variants.{Pressed, Released}
 
@@ -88,10 +87,6 @@ messageEffect s b m (focus st) = behind s (focusEvents b st) (s .held) (s .entri
 messageEffect s b m ignored = nothingDone s
 
 -- ---- a finish
-
-abbrev pub kindOf : Option Message → ℕ
-kindOf none = 0
-kindOf (some m) = m .kind
 
 -- "A peeked kind other than 100, 101, 104, 105 makes this press the held one"; nothing peeked does not
 unfoldable pub holds : Option Message → Bool

@@ -1,4 +1,4 @@
--- Demand 3, as a statement. proofs/Demand3.antt has its proof: `demand3 : Demand3`, with no premise left.
+-- Demand 3, as a statement. proofs/Demand3.antt has its proof, `demand3 : Demand3`.
 -- Assumes nothing.
 use mathlib.Core.Path.{_≡_}
 use Prim.Native.Nat.{ℕ, _≤_}
