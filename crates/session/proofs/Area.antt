@@ -27,7 +27,7 @@ use Rattle.session.specs.Limits.{AREA, OPEN-MOST, ENTRIES-MOST, TOKENS-M
 use Rattle.session.specs.Codec.{byte, number, nothing, pair, checked, via, slot, Either, left, right, either, listOf}
 use Rattle.session.specs.Event.{Event, Info, Held}
 use Rattle.session.specs.Session.{Wait, press, release, character, Entry, waiting, complete, Session, freshSession, tokenOf, openCount, rising, firstOpen, unitsWithin, inOrder, textFits, optTextFits, fullKeyFits, eventFits, allFit, infoFits, unitsFit, heldFits, waitFits, entryFits, entriesFit, isSession}
-use Rattle.session.specs.Area.{flagNumber, flag, stateNumber, state, location, bytesOf, textFrom, textBytes, optText, keyCode, keyTextOk, keyFieldsOk, fullKey, event, info, held, pressed, toWait, fromWait, INFO, WAIT, EVENT, HELD, wait, toEntry, entryOf, entry, toHeld, fromHeld, session, encode, decode, sessionOk, answer, encodeAnswer, decodeAnswer}
+use Rattle.session.specs.Area.{flagNumber, flag, stateNumber, state, location, bytesOf, textFrom, textBytes, optText, keyCode, keyTextOk, keyFieldsOk, fullKey, event, info, held, pressed, toWait, fromWait, INFO, WAIT, EVENT, HELD, wait, toEntry, entryOf, entry, toHeld, fromHeld, heldField, session, encode, decode, sessionOk, answer, encodeAnswer, decodeAnswer}
 use Rattle.session.specs.Answers.{freshArea}
 use Rattle.session.specs.declared.ElementState.{ElementState}
 use Rattle.session.specs.declared.ElementState.the-variants.{Pressed, Released}
@@ -237,7 +237,7 @@ event-sound =
     (λ e h. let p = event-parts e h in ((p .0, (p .1, (p .2, (tt, (tt, (tt, (tt, (p .3, p .4)))))))), refl))
     (λ n f. (event-fits _ (f .0) (f .1 .0) (f .1 .1 .0) (f .1 .1 .1 .1 .1 .1 .1 .0) (f .1 .1 .1 .1 .1 .1 .1 .1), refl))
 
-event-width : event .width ≡ EVENT
+pub event-width : event .width ≡ EVENT
 unfolding event via pair number byte flag state checked location keyCode fullKey textBytes optText listOf
 event-width = refl
 
@@ -266,7 +266,7 @@ info-sound =
     (λ n h. let p = info-parts n h in ((p .0, (tt, (tt, (p .1, p .2)))), refl))
     (λ n f. (info-fits _ (f .0) (f .1 .1 .1 .0) (f .1 .1 .1 .1), refl))
 
-info-width : info .width ≡ INFO
+pub info-width : info .width ≡ INFO
 unfolding info via pair number byte flag checked location fullKey textBytes listOf
 info-width = refl
 
@@ -303,7 +303,7 @@ held-sound =
     (λ h f. let p = held-parts h (f .0) in ((p .0, (p .1, (tt, (f .1, p .2)))), refl))
     (λ n f. ((held-fits _ (f .0) (f .1 .0) (f .1 .1 .1 .1), f .1 .1 .1 .0), refl))
 
-held-width : held .width ≡ HELD
+pub held-width : held .width ≡ HELD
 unfolding held via pair number flag checked byte listOf
 held-width = omega (arith, info-width)
 
@@ -404,7 +404,8 @@ opt-held-exact :
 opt-held-exact (left u) f = (tt, refl)
 opt-held-exact (right h) f = (f, refl)
 
-opt-held-sound : Sound (via toHeld fromHeld (either (slot HELD nothing) held)) OptHeldFits
+opt-held-sound : Sound heldField OptHeldFits
+unfolding heldField
 opt-held-sound =
     via-sound toHeld fromHeld (either-sound (slot-width HELD nothing ∙ sym held-width) (slot-sound HELD (nothing-width HELD) nothing-sound) held-sound)
     opt-held-back opt-held-exact
@@ -413,18 +414,18 @@ abbrev SessionFits : Session → Type 0
 SessionFits s =
     (s .handed < 65536) × (OptHeldFits (s .held) × ((length (s .entries) ≤ ENTRIES-MOST) × All EntryFits (s .entries)))
 
-opt-held-width : via toHeld fromHeld (either (slot HELD nothing) held) .width ≡ suc HELD
-unfolding via either slot
-opt-held-width = refl
+pub held-field-width : heldField .width ≡ suc HELD
+unfolding heldField via either slot
+held-field-width = refl
 
-entry-width : entry .width ≡ 3 + EVENT
+pub entry-width : entry .width ≡ 3 + EVENT
 unfolding entry via pair number either slot
 entry-width = refl
 
 session-sound : Sound session SessionFits
 unfolding session
 session-sound =
-    slot-sound AREA (unfold via pair number listOf in omega (arith, opt-held-width, entry-width))
+    slot-sound AREA (unfold via pair number listOf in omega (arith, held-field-width, entry-width))
     (via-sound _ _ (pair-sound (number-sound 2) (pair-sound opt-held-sound (list-sound 2 ENTRIES-MOST (omega arith) entry-sound)))
     (λ s f. (f, refl)) (λ p f. (f, refl)))
 
@@ -528,9 +529,9 @@ answer-back es h f =
 -- ---- a fresh session
 
 fresh-zeros : Zeros session freshSession
-unfolding session freshSession
+unfolding session heldField freshSession
 fresh-zeros =
-    slot-zeros AREA _ _ (unfold via pair number listOf in omega (arith, opt-held-width, entry-width))
+    slot-zeros AREA _ _ (unfold via pair number listOf in omega (arith, held-field-width, entry-width))
     (via-zeros _ _ _ _ (pair-zeros _ _ _ _ (number-zeros 2) (pair-zeros _ _ _ _ (via-zeros _ _ _ _ (left-zeros _ _ _ (slot-zeros HELD _ _ (nothing-width HELD) nothing-zeros))) (list-zeros 2 ENTRIES-MOST _))))
 
 pub fresh-area : encode freshSession ≡ freshArea

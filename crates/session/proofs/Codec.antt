@@ -375,3 +375,21 @@ left-zeros X Y a x = ap (λ (t : List ℕ). 0 ∷ t) x
 pub list-zeros : {A : Type 0} (k n : ℕ) (X : Codec A) → Zeros (listOf k n X) []
 unfolding listOf putMany number
 list-zeros k n X = rw (number-zeros k, padded-zeros (n * X .width) 0 zero-le) (replicate-append-replicate k (n * X .width) 0)
+
+-- ---- bytes one behind the other are themselves
+
+pub bytes-put : (l : List ℕ) → putMany byte l ≡ l
+unfolding putMany byte
+bytes-put [] = refl
+bytes-put (b ∷ l) = ap (λ (t : List ℕ). b ∷ t) (bytes-put l)
+
+pub bytes-got : (n : ℕ) (l : List ℕ) → n ≤ length l → getMany byte n l ≡ take n l
+unfolding getMany byte
+bytes-got zero l h = refl
+bytes-got (suc n) [] h = absurd (omega arith)
+bytes-got (suc n) (b ∷ l) h = ap (λ (t : List ℕ). b ∷ t) (bytes-got n l (omega arith))
+
+pub bytes-pass : (n : ℕ) (l : List ℕ) → okMany byte n l ≡ true
+unfolding okMany byte
+bytes-pass zero l = refl
+bytes-pass (suc n) l = bytes-pass n (drop 1 l)

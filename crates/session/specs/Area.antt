@@ -163,11 +163,15 @@ fromHeld (right h) = some h
 abbrev pub HELD : ℕ
 HELD = 104
 
+-- whether a press is held, and which
+unfoldable pub heldField : Codec (Option Held)
+heldField = via toHeld fromHeld (either (slot HELD nothing) held)
+
 unfoldable pub session : Codec Session
 session =
     slot AREA
     (via (λ s. (s .handed, (s .held, s .entries))) (λ p. record { handed = p .0; held = p .1 .0; entries = p .1 .1 })
-    (pair (number 2) (pair (via toHeld fromHeld (either (slot HELD nothing) held)) (listOf 2 ENTRIES-MOST entry))))
+    (pair (number 2) (pair heldField (listOf 2 ENTRIES-MOST entry))))
 
 unfoldable pub encode : Session → List ℕ
 encode s = session .put s
