@@ -23,8 +23,8 @@ use Rattle.keystroke.specs.Modifiers.{down, toggled, anyDown, numLockOn, capsLo
 use Rattle.block.specs.Maps.{Maps, MapsOk, find, findCode, listFor, lenOk, valueOk, itemOk, itemsOk, numberedAll, codesFit, codeListsOk, cellsOk}
 use Rattle.block.specs.Encode.{numberedLists, listsIn, entryBytes, itemBytes}
 use Rattle.block.proofs.Whole.{block-most, maps-back}
-use Rattle.lookup.specs.Layout.{nonCharKey, getKey, scanCodeFor, messageScancode, vkeyFor}
-use Rattle.lookup.specs.Location.{places, vkeyPlace, locationIn, extendedCode, locationOf}
+use Rattle.layout.specs.Layout.{nonCharKey, getKey, scanCodeFor, messageScancode, vkeyFor}
+use Rattle.layout.specs.Location.{places, vkeyPlace, locationIn, extendedCode, locationOf}
 use Rattle.session.specs.Session.{freshSession, openCount, rising, firstOpen, unitsWithin, inOrder, textFits, optTextFits, fullKeyFits, eventFits, infoFits, heldFits, waitFits, entryFits, entriesFit, isSession}
 use Rattle.session.specs.Builder.{Keyboard, keyboardOf, layoutKey, plainKey, codeAsKey, forcedKey, undead, fromMessage, isCharacter, markOf, heldOf, withUnits, typedText, typedKey, finalize, pressEvent, deadCharEvent, controlCounts, lastText, charEvent, releaseEvent, isControl, fake}
 use Rattle.session.specs.Focus.{modifierKeys, isOther, othersFrom, focusKeys, focusKey, focusText, syntheticEvent, written, syntheticEvents, focusEvents}

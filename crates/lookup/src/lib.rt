@@ -3,7 +3,7 @@
 pub mod keyboard;
 pub mod keyboard_layout;
 
-pub use block::block_ok;
+pub use blockcheck::block_ok;
 pub use keystroke::KeyLParam;
 pub use keystroke::WindowsModifiers;
 pub use keystroke::caps_lock_on;

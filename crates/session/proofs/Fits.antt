@@ -28,7 +28,7 @@ use Rattle.keystroke.specs.declared.KeyLParam.{KeyLParam}
 use Rattle.block.specs.Maps.{MapsOk}
 use Rattle.block.specs.Block.{blockOk}
 use Rattle.block.proofs.Only.{maps-exact}
-use Rattle.lookup.specs.Layout.{getKey, scanCodeFor, messageScancode}
+use Rattle.layout.specs.Layout.{getKey, scanCodeFor, messageScancode}
 use Rattle.session.specs.Limits.{KEYS, ENTRIES-MOST, UNITS-MOST, TEXT-MOST, KEY-TEXT-MOST}
 use Rattle.session.specs.Given.{Inputs}
 use Rattle.session.specs.Event.{Event, Info, Held}

@@ -24,7 +24,7 @@ use Rattle.listkey.specs.CodeKey.{codeKey, codeKeyOk, codeFits}
 use Rattle.keycode.specs.Number.{codeNative}
 use Rattle.scancode.specs.Codes.{scanCodes, keyCodeOf}
 use Rattle.block.specs.Maps.{Item, CodeItem, Maps, MapsOk, find, findCode, listFor, lenOk, valueOk, itemOk, itemsOk, numbered, numberedAll, codesFit, codeListsOk, vkeyOk, nonCharOk, word, cellsOk}
-use Rattle.lookup.specs.Layout.{orElse, nonCharKey, asNamed, getKey, scanCodeFor}
+use Rattle.layout.specs.Layout.{orElse, nonCharKey, asNamed, getKey, scanCodeFor}
 use Rattle.session.specs.Limits.{UNITS-MOST, TEXT-MOST, KEY-TEXT-MOST}
 use Rattle.session.specs.Session.{textFits, optTextFits, fullKeyFits}
 use Rattle.session.specs.Builder.{undead, typedText}

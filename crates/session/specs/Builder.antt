@@ -23,8 +23,8 @@ use Rattle.keystroke.specs.declared.KeyLParam.{KeyLParam}
 use Rattle.keystroke.specs.declared.WindowsModifiers.{WindowsModifiers}
 use Rattle.block.specs.Maps.{Maps}
 use Rattle.block.specs.Block.{mapsOf}
-use Rattle.lookup.specs.Layout.{getKey, messageScancode, orElse}
-use Rattle.lookup.specs.Location.{locationOf}
+use Rattle.layout.specs.Layout.{getKey, messageScancode, orElse}
+use Rattle.layout.specs.Location.{locationOf}
 use Rattle.session.specs.Given.{Message, Inputs}
 use Rattle.session.specs.Event.{Event, Info, Held}
 use Rattle.session.specs.declared.ElementState.{ElementState}

@@ -10,8 +10,8 @@ use Rattle.area.specs.Look.{lookup}
 use Rattle.keys.specs.Text.{FullKey, toText}
 use Rattle.scancode.specs.Codes.{keyCodeOf}
 use Rattle.keystroke.specs.Modifiers.{down, numLockOn, capsLockOn}
-use Rattle.lookup.specs.Layout.{getKey, scanCodeFor}
-use Rattle.lookup.specs.Location.{locationOf}
+use Rattle.layout.specs.Layout.{getKey, scanCodeFor}
+use Rattle.layout.specs.Location.{locationOf}
 use Rattle.session.specs.Limits.{KEYS}
 use Rattle.session.specs.Event.{Event}
 use Rattle.session.specs.Builder.{Keyboard, plainKey}

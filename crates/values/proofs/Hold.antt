@@ -9,8 +9,8 @@ use Rattle.keycode.specs.Number.{codeNumber}
 use Rattle.scancode.specs.Codes.{scanCodes, keyCodeOf}
 use Rattle.keystroke.specs.LParam.{exScancode, exScancodeOf, keyLParam}
 use Rattle.keystroke.specs.Modifiers.{removeOnlyCtrl}
-use Rattle.lookup.specs.Layout.{vkeyFor}
-use Rattle.lookup.specs.Location.{places, vkeyPlace, locationIn, extendedCode, locationOf}
+use Rattle.layout.specs.Layout.{vkeyFor}
+use Rattle.layout.specs.Location.{places, vkeyPlace, locationIn, extendedCode, locationOf}
 use Rattle.values.specs.Values.{right}
 
 pub values-hold : T right

@@ -14,7 +14,7 @@ use Rattle.block.specs.Maps.{Maps}
 use Rattle.scancode.specs.Codes.{keyCodeOf}
 use Rattle.keystroke.specs.LParam.{exScancodeOf, keyLParam}
 use Rattle.keystroke.specs.Modifiers.{removeOnlyCtrl}
-use Rattle.lookup.specs.Location.{locationOf}
+use Rattle.layout.specs.Location.{locationOf}
 use Rattle.keystroke.specs.declared.WindowsModifiers.{WindowsModifiers}
 
 -- ---- equality of what the rows hold
