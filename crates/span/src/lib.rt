@@ -1,9 +1,9 @@
-// Runs of bytes in place: copies, moves, fills and scans.
+// Runs of bytes in place: copies, moves and fills.
 ghost use mathlib.Core.Path.{_≡_};
-ghost use Prim.Native.Nat.{_+_, _-_, _≤_};
+ghost use Prim.Native.Nat.{_+_, _≤_};
 ghost use lib.ListN.{length, take, drop, replicate};
 ghost use Rattle.area.specs.Splice.{splice, padded};
-ghost use Rattle.area.specs.Zero.{allZero, orRest, zeroFrom};
+ghost use Rattle.area.specs.Zero.{zeroFrom};
 
 // `count` bytes of src from `from`, to dst at `to`.
 pub fn copy_part(src: &[u8], from: usize, dst: &mut [u8], to: usize, count: usize)
@@ -57,35 +57,4 @@ pub fn fill_zero(s: &mut [u8], n: usize)
 {
     let count = s.len() - n;
     put_zeros(s, n, count);
-}
-
-// The OR of all bytes. With no way out of the loop it is compiled to wide instructions.
-pub fn or_all(t: &[u8]) -> u8
-    ensures { λ r. ⌜ r ≡ orRest 0 (now (t .entry)) ⌝ }
-{
-    let mut acc: u8 = 0;
-    let mut i = 0;
-    while i < t.len() {
-        acc = acc | t[i];
-        i += 1;
-    }
-    acc
-}
-
-// Whether the bytes from n to the end are all 0.
-pub fn zero_from(s: &[u8], n: usize) -> bool
-    ensures { λ r. ⌜ r ≡ allZero (drop n (now (s .entry))) ⌝ }
-{
-    if s.len() < n {
-        return true;
-    }
-    or_all(&s[n..]) == 0
-}
-
-// Whether the bytes from `from` and before `to` are all 0.
-pub fn zero_part(s: &[u8], from: usize, to: usize) -> bool
-    requires { ⌜ (from ≤ to) × (to ≤ length (now s)) ⌝ }
-    ensures { λ r. ⌜ r ≡ allZero (take (to - from) (drop from (now (s .entry)))) ⌝ }
-{
-    or_all(&s[from..to]) == 0
 }

@@ -95,7 +95,7 @@ fn scan_one(bytes: &mut [u8], i: u64) -> u64
         return 0;
     }
     bytes[at] = 0;
-    if span::zero_from(bytes, 0) {
+    if scan::zero_from(bytes, 0) {
         return 1;
     }
     0

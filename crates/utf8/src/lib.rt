@@ -125,7 +125,7 @@ pub fn utf8_step(t: &[u8], i: usize) -> Step
 pub fn well_formed(t: &[u8]) -> bool
     ensures { λ r. ⌜ r ≡ wellFormed (now (t .entry)) ⌝ }
 {
-    if span::or_all(t) < 0x80 {
+    if scan::or_all(t) < 0x80 {
         return true;
     }
     let mut i: usize = 0;
