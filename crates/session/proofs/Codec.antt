@@ -224,7 +224,7 @@ All F [] = Unit {0}
 All F (a ∷ r) = F a × All F r
 
 module _ {A : Type 0} (X : Codec A) where
-  many-count : (n : ℕ) (l : List ℕ) → length (getMany X n l) ≡ n
+  pub many-count : (n : ℕ) (l : List ℕ) → length (getMany X n l) ≡ n
   unfolding getMany
   many-count zero l = refl
   many-count (suc n) l = ap suc (many-count n (drop (X .width) l))

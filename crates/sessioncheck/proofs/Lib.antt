@@ -1,0 +1,6 @@
+mod Texts
+mod Keys
+mod Records
+mod Entries
+mod Order
+mod Whole

@@ -1,0 +1,141 @@
+-- The order of the queue: tokens that rise, the first entry, how many messages are open.
+-- Assumes nothing.
+use mathlib.Core.Path.{_≡_, refl, sym, ap, _∙_}
+use mathlib.Core.Bool.{Bool, true, false, _&&_}
+use mathlib.Core.List.{List, _∷_}
+use Prim.Native.Nat.{ℕ, zero, suc, _+_, _-_, _*_, _≤_, _<_}
+use native.Mathlib.Nat.{zero-add, add-zero, sub-zero}
+use native.Mathlib.Numerals.{add-one}
+use native.Mathlib.Omega.{arith}
+use lib.Dec.{eqb, ltb, leb, leb·suc-suc}
+use lib.ListN.{drop, getD}
+use lib.Seq.{drop-drop, getD-drop}
+use borrow.Author.Tests.{lt-ltb, le-ltb, le-leb, lt-leb, eq-eqb, ne-eqb}
+use Rattle.area.specs.Pick.{pick}
+use Rattle.area.specs.Bytes.{num}
+use Rattle.area.proofs.Bytes.{num-drop}
+use Rattle.session.specs.Event.{Event}
+use Rattle.session.specs.Session.{Wait, Entry, waiting, complete, tokenOf, rising, firstOpen, openCount}
+use Rattle.session.specs.Codec.{number, pair, via, slot, left, right, either, getMany}
+use Rattle.session.specs.Area.{wait, event, entry, entryOf}
+use Rattle.session.proofs.Area.{entry-width}
+use Rattle.sessioncheck.proofs.Entries.{stop-by, next-by, many-got}
+
+-- ---- an entry that is read, told apart by its mark
+
+read-as :
+    {A : Type 0} (f : Entry → A) (l : List ℕ) →
+    f (entry .get l) ≡ pick (eqb (getD l 2 0) 0) (f (waiting (num 2 0 l) (wait .get (drop 3 l)))) (f (complete (num 2 0 l) (event .get (drop 3 l))))
+unfolding entry via pair number either slot
+read-as {A} f l =
+    rw (getD-drop 2 l 0 0, drop-drop 1 2 l) (go (eqb (getD l 2 0) 0) (num 2 0 l) (wait .get (drop 3 l)) (event .get (drop 3 l)))
+  where
+    go : (b : Bool) (t : ℕ) (w : Wait) (e : Event) → f (entryOf t (pick b (left w) (right e))) ≡ pick b (f (waiting t w)) (f (complete t e))
+    go true t w e = refl
+    go false t w e = refl
+
+token : (l : List ℕ) → tokenOf (entry .get l) ≡ num 2 0 l
+token l = read-as tokenOf l ∙ either-way (eqb (getD l 2 0) 0)
+  where
+    either-way : (b : Bool) → pick b (num 2 0 l) (num 2 0 l) ≡ num 2 0 l
+    either-way true = refl
+    either-way false = refl
+
+opens : (l : List ℕ) (r : List Entry) → openCount (entry .get l ∷ r) ≡ pick (eqb (getD l 2 0) 0) (suc (openCount r)) (openCount r)
+unfolding openCount
+opens l r = read-as (λ x. openCount (x ∷ r)) l
+
+leads : (h : ℕ) (l : List ℕ) (r : List Entry) → firstOpen h (entry .get l ∷ r) ≡ eqb (getD l 2 0) 0
+unfolding firstOpen
+leads h l r = read-as (λ x. firstOpen h (x ∷ r)) l ∙ itself (eqb (getD l 2 0) 0)
+  where
+    itself : (b : Bool) → pick b true false ≡ b
+    itself true = refl
+    itself false = refl
+
+-- ---- a loop that has come to entry i, whose token must be at least lo
+
+abbrev pub Rises : ℕ → List ℕ → ℕ → ℕ → ℕ → Type 0
+Rises h x n i lo = rising 0 h (getMany entry n x) ≡ rising lo h (getMany entry (n - i) (drop (199 * i) x))
+
+pub rises-start : (h : ℕ) (x : List ℕ) (n : ℕ) → Rises h x n 0 0
+rises-start h x n = rw sub-zero
+
+module _ (h : ℕ) (x : List ℕ) (n i lo : ℕ) (inv : Rises h x n i lo) where
+  module _ (k : i < n) {t : ℕ} (e : t ≡ num 2 (199 * i) x) where
+    here : tokenOf (entry .get (drop (199 * i) x)) ≡ t
+    here = token (drop (199 * i) x) ∙ num-drop 2 0 (199 * i) x ∙ rw add-zero (sym e)
+
+    turn : rising 0 h (getMany entry n x) ≡ (leb lo t && (ltb t h && rising (t + 1) h (getMany entry (n - (i + 1)) (drop (199 * (i + 1)) x))))
+    unfolding rising
+    turn = inv ∙ rw (many-got entry 199 entry-width n i x k, here, add-one t)
+
+    pub too-low : t < lo → false ≡ rising 0 h (getMany entry n x)
+    too-low a = stop-by _ _ turn refl (lt-leb lo t a)
+
+    module _ (a : lo ≤ t) where
+      rest : rising 0 h (getMany entry n x) ≡ (ltb t h && rising (t + 1) h (getMany entry (n - (i + 1)) (drop (199 * (i + 1)) x)))
+      rest = next-by _ _ turn refl (le-leb lo t a)
+
+      pub too-high : h ≤ t → false ≡ rising 0 h (getMany entry n x)
+      too-high b = stop-by _ _ rest refl (le-ltb t h b)
+
+      pub rises-next : t < h → Rises h x n (i + 1) (t + 1)
+      rises-next b = next-by _ _ rest refl (lt-ltb t h b)
+
+  pub rises-end : n ≤ i → true ≡ rising 0 h (getMany entry n x)
+  unfolding rising getMany
+  rises-end k = let z : n - i ≡ 0 = omega arith in sym (inv ∙ rw z)
+
+-- ---- a loop that has come to entry i and counted k open ones
+
+abbrev pub Opens : List ℕ → ℕ → ℕ → ℕ → Type 0
+Opens x n i k = (k ≤ i) × (openCount (getMany entry n x) ≡ k + openCount (getMany entry (n - i) (drop (199 * i) x)))
+
+pub opens-start : (x : List ℕ) (n : ℕ) → Opens x n 0 0
+opens-start x n = (omega arith, rw (sub-zero, zero-add))
+
+module _ (x : List ℕ) (n i k : ℕ) (inv : Opens x n i k) where
+  module _ (h : i < n) where
+    one : openCount (getMany entry (n - i) (drop (199 * i) x)) ≡ pick (eqb (getD x (199 * i + 2) 0) 0) (suc (openCount (getMany entry (n - (i + 1)) (drop (199 * (i + 1)) x)))) (openCount (getMany entry (n - (i + 1)) (drop (199 * (i + 1)) x)))
+    one = rw (many-got entry 199 entry-width n i x h, opens (drop (199 * i) x), getD-drop (199 * i) x 2 0)
+
+    pub opens-more : {j : ℕ} → getD x (199 * i + 2) 0 ≡ 0 → j ≡ k + 1 → Opens x n (i + 1) j
+    opens-more e f =
+        let o = rw (eq-eqb (getD x (199 * i + 2) 0) 0 e) at one in let c = inv .1 in (omega arith, omega arith)
+
+    pub opens-same : {j : ℕ} → (getD x (199 * i + 2) 0 ≡ 0 → ⊥) → j ≡ k → Opens x n (i + 1) j
+    opens-same e f =
+        let o = rw (ne-eqb (getD x (199 * i + 2) 0) 0 e) at one in let c = inv .1 in (omega arith, omega arith)
+
+  pub opens-end : n ≤ i → k ≡ openCount (getMany entry n x)
+  unfolding openCount getMany
+  opens-end h = let z : n - i ≡ 0 = omega arith in sym (inv .1 ∙ rw (z, add-zero))
+
+-- ---- the first entry
+
+pub first-none : (h : ℕ) (x : List ℕ) (n : ℕ) → n ≡ 0 → eqb h 0 ≡ firstOpen h (getMany entry n x)
+unfolding firstOpen getMany
+first-none h x n e = rw e
+
+pub first-some : (h : ℕ) (x : List ℕ) (n : ℕ) → (n ≡ 0 → ⊥) → eqb (getD x 2 0) 0 ≡ firstOpen h (getMany entry n x)
+unfolding getMany
+first-some h x zero e = absurd (e refl)
+first-some h x (suc n) e = sym (leads h x (getMany entry n (drop (entry .width) x)))
+
+-- ---- the three together
+
+abbrev pub Ordered : ℕ → List Entry → Bool
+Ordered h es = rising 0 h es && (firstOpen h es && leb (openCount es) 8)
+
+module _ (h : ℕ) (x : List ℕ) (n : ℕ) {a : Bool} (ea : a ≡ rising 0 h (getMany entry n x)) where
+  pub no-rise : a ≡ false → false ≡ Ordered h (getMany entry n x)
+  no-rise = stop-by _ _ refl ea
+
+  module _ (ta : a ≡ true) {b : Bool} (eb : b ≡ firstOpen h (getMany entry n x)) where
+    pub no-first : b ≡ false → false ≡ Ordered h (getMany entry n x)
+    no-first = stop-by _ _ (next-by _ _ refl ea ta) eb
+
+    pub by-count : {k : ℕ} → b ≡ true → k ≡ openCount (getMany entry n x) → ltb k 9 ≡ Ordered h (getMany entry n x)
+    by-count {k} tb e =
+        leb·suc-suc k 8 ∙ ap (λ (m : ℕ). leb m 8) e ∙ sym (next-by _ _ (next-by _ _ refl ea ta) eb tb)
