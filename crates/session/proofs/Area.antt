@@ -227,7 +227,7 @@ event-fits :
 unfolding eventFits
 event-fits e a b c d f = rw (a, b, c, d, f)
 
-event-sound : Sound event (λ e. eventFits e ≡ true)
+pub event-sound : Sound event (λ e. eventFits e ≡ true)
 unfolding event
 event-sound =
     let k = key-sound KEY-TEXT-MOST (omega arith) in
@@ -281,7 +281,7 @@ unfolding unitsFit
 units-fit [] h = refl
 units-fit (u ∷ us) h = rw (lt-ltb u 65536 (h .0)) (units-fit us (h .1))
 
-abbrev HeldFits : Held → Type 0
+abbrev pub HeldFits : Held → Type 0
 HeldFits h = (heldFits (some h) ≡ true) × (length (h .units) ≤ UNITS-MOST)
 
 held-parts : (h : Held) → heldFits (some h) ≡ true → (infoFits (h .info) ≡ true) × (h .vkey < 65536) × All (λ u. u < 256 ^ 2) (h .units)
@@ -363,7 +363,7 @@ wait-sound =
     (either-sound waits-width (slot-sound WAIT pressed-width pressed-sound) (either-sound (info-width ∙ sym (slot-width INFO nothing)) info-sound (slot-sound INFO (nothing-width INFO) nothing-sound)))
     wait-back wait-exact
 
-abbrev EntryFits : Entry → Type 0
+abbrev pub EntryFits : Entry → Type 0
 EntryFits x = (tokenOf x < 65536) × (entryFits x ≡ true)
 
 abbrev EitherFits : Either Wait Event → Type 0
@@ -383,7 +383,7 @@ wait-width : wait .width ≤ EVENT
 unfolding wait via either slot
 wait-width = omega arith
 
-entry-sound : Sound entry EntryFits
+pub entry-sound : Sound entry EntryFits
 unfolding entry
 entry-sound =
     via-sound toEntry _ (pair-sound (number-sound 2) (either-sound (slot-width EVENT wait ∙ sym event-width) (slot-sound EVENT wait-width wait-sound) event-sound))
@@ -391,7 +391,7 @@ entry-sound =
 
 -- ---- the session
 
-abbrev OptHeldFits : Option Held → Type 0
+abbrev pub OptHeldFits : Option Held → Type 0
 OptHeldFits none = Unit {0}
 OptHeldFits (some h) = HeldFits h
 
@@ -404,13 +404,13 @@ opt-held-exact :
 opt-held-exact (left u) f = (tt, refl)
 opt-held-exact (right h) f = (f, refl)
 
-opt-held-sound : Sound heldField OptHeldFits
+pub opt-held-sound : Sound heldField OptHeldFits
 unfolding heldField
 opt-held-sound =
     via-sound toHeld fromHeld (either-sound (slot-width HELD nothing ∙ sym held-width) (slot-sound HELD (nothing-width HELD) nothing-sound) held-sound)
     opt-held-back opt-held-exact
 
-abbrev SessionFits : Session → Type 0
+abbrev pub SessionFits : Session → Type 0
 SessionFits s =
     (s .handed < 65536) × (OptHeldFits (s .held) × ((length (s .entries) ≤ ENTRIES-MOST) × All EntryFits (s .entries)))
 
@@ -450,7 +450,7 @@ unfolding entriesFit
 entries-fit [] f = refl
 entries-fit (x ∷ es) f = rw (f .0 .1) (entries-fit es (f .1))
 
-opt-held-fits : (o : Option Held) → heldFits o ≡ true → unitsWithin o ≡ true → OptHeldFits o
+pub opt-held-fits : (o : Option Held) → heldFits o ≡ true → unitsWithin o ≡ true → OptHeldFits o
 unfolding unitsWithin
 opt-held-fits none f u = tt
 opt-held-fits (some h) f u = (f, leb-true (length (h .units)) UNITS-MOST u)
@@ -472,7 +472,7 @@ order-parts s o =
     let e = and-eq-true-iff (leb (s .handed) TOKENS-MOST) (unitsWithin (s .held)) .0 (d .1) in
     (a .0, leb-true (length (s .entries)) ENTRIES-MOST (d .0), leb-true (s .handed) TOKENS-MOST (e .0), e .1)
 
-session-parts : (s : Session) → isSession s ≡ true → (inOrder s ≡ true) × SessionFits s
+pub session-parts : (s : Session) → isSession s ≡ true → (inOrder s ≡ true) × SessionFits s
 unfolding isSession
 session-parts s h =
     let a = and-eq-true-iff (inOrder s) _ .0 h in
@@ -514,7 +514,7 @@ answer-width : answer .width ≡ AREA
 unfolding answer
 answer-width = slot-width AREA _
 
-events-each : (es : List Event) → allFit es ≡ true → All (λ e. eventFits e ≡ true) es
+pub events-each : (es : List Event) → allFit es ≡ true → All (λ e. eventFits e ≡ true) es
 unfolding allFit
 events-each [] h = tt
 events-each (e ∷ es) h = let t = and-eq-true-iff (eventFits e) (allFit es) .0 h in (t .0, events-each es (t .1))

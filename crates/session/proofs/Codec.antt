@@ -230,7 +230,7 @@ module _ {A : Type 0} (X : Codec A) where
   many-count (suc n) l = ap suc (many-count n (drop (X .width) l))
 
   module _ {F : A → Type 0} (x : Sound X F) where
-    many-sized : (s : List A) → All F s → length (putMany X s) ≡ length s * X .width
+    pub many-sized : (s : List A) → All F s → length (putMany X s) ≡ length s * X .width
     unfolding putMany
     many-sized [] h = sym (zero-mul (X .width))
     many-sized (a ∷ s) h =
@@ -261,12 +261,12 @@ module _ {A : Type 0} (X : Codec A) where
         (rw (append-assoc, z, ← drop-drop (n * w) w l, m .0) (e .0), (e .1, m .1))
 
 -- m of n widths, and the rest
-rest : (m n w : ℕ) → m ≤ n → m * w + (n - m) * w ≡ n * w
+pub rest : (m n w : ℕ) → m ≤ n → m * w + (n - m) * w ≡ n * w
 rest m n w h = sym (add-mul m (n - m) w) ∙ ap (λ (k : ℕ). k * w) (add-sub-of-le h)
 
 module _ {A : Type 0} (k n : ℕ) {X : Codec A} {F : A → Type 0} (q : n < 256 ^ k) (x : Sound X F) where
   -- the count, the values, the zeros, and what stands behind
-  list-as :
+  pub list-as :
       (s : List A) (r : List ℕ) → length s ≤ n → All F s →
       listOf k n X .put s ++ r ≡ le k (length s) ++ (putMany X s ++ (replicate ((n - length s) * X .width) 0 ++ r))
   unfolding listOf
@@ -275,7 +275,7 @@ module _ {A : Type 0} (k n : ℕ) {X : Codec A} {F : A → Type 0} (q : n < 256 
       let z : n * w - length s * w ≡ (n - length s) * w = omega (arith, rest (length s) n w h) in
       rw (append-assoc, padded-as (n * w) (length s * w) (putMany X s) r (many-sized X x s f), z)
 
-  list-sized : (s : List A) → (length s ≤ n) × All F s → length (listOf k n X .put s) ≡ listOf k n X .width
+  pub list-sized : (s : List A) → (length s ≤ n) × All F s → length (listOf k n X .put s) ≡ listOf k n X .width
   unfolding listOf
   list-sized s h =
       let w = X .width in

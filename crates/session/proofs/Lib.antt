@@ -1,6 +1,7 @@
 pub mod Lists
 pub mod Codec
 pub mod Area
+pub mod Writes
 pub mod Ranges
 pub mod Fits
 pub mod Laws
