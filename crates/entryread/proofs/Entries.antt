@@ -1,0 +1,112 @@
+-- What an open press, an entry and the header read, each in plain terms: at which place, and how.
+-- Assumes nothing.
+use mathlib.Core.Path.{_≡_, refl, _∙_}
+use mathlib.Core.Bool.{true, _&&_, and-eq-true-iff}
+use mathlib.Core.List.{List}
+use mathlib.Core.Option.{Option}
+use Prim.Native.Nat.{ℕ, _+_}
+use lib.Dec.{eqb}
+use lib.ListN.{length, drop, getD}
+use lib.Seq.{drop-drop, getD-drop}
+use Rattle.area.specs.Pick.{pick}
+use Rattle.area.specs.Bytes.{num}
+use Rattle.area.proofs.Bytes.{num-drop}
+use Rattle.session.specs.Limits.{ENTRIES-MOST}
+use Rattle.session.specs.Codec.{Codec, byte, number, nothing, pair, via, slot, left, right, either, listOf}
+use Rattle.session.specs.Event.{Held}
+use Rattle.session.specs.Session.{Entry}
+use Rattle.session.specs.Area.{flag, event, info, held, pressed, INFO, WAIT, EVENT, fromWait, wait, entryOf, entry, fromHeld, HELD, heldField, session, decode, sessionOk}
+use Rattle.session.proofs.Area.{held-field-width}
+use Rattle.session.proofs.Codec.{many-count}
+use Rattle.recordread.proofs.Formats.{pair-ok, pair-got, byte-at, flag-at, number-at, number-width, byte-width, flag-width}
+
+-- ---- an open press
+
+pub pressed-got :
+    (l : List ℕ) → pressed .get l ≡ (num 2 0 l, record { scancode = getD l 2 0; extended = eqb (getD l 3 0) 1; «is_repeat» = eqb (getD l 4 0) 1 })
+unfolding pressed via
+pressed-got l =
+    rw (pair-got (number 2) _ 0 2 l (number-width 2), pair-got byte _ 2 1 l byte-width, pair-got flag _ 3 1 l flag-width, number-at 0 l 2, byte-at 2 l, flag-at 3 l, flag-at 4 l)
+
+-- ---- an entry
+
+-- one of two, from place k on
+module _ {A B : Type 0} (X : Codec A) (Y : Codec B) (k : ℕ) (l : List ℕ) where
+  pub either-ok :
+      either X Y .ok (drop k l) ≡ true → pick (eqb (getD l (k + 0) 0) 0) (X .ok (drop (k + 1) l)) (eqb (getD l (k + 0) 0) 1 && Y .ok (drop (k + 1) l)) ≡ true
+  unfolding either
+  either-ok o = rw (getD-drop k l 0 0, drop-drop 1 k l) at o
+
+  either-got : either X Y .get (drop k l) ≡ pick (eqb (getD l (k + 0) 0) 0) (left (X .get (drop (k + 1) l))) (right (Y .get (drop (k + 1) l)))
+  unfolding either
+  either-got = rw (getD-drop k l 0 0, drop-drop 1 k l)
+
+slot-got : {A : Type 0} (w : ℕ) (X : Codec A) (l : List ℕ) → slot w X .get l ≡ X .get l
+unfolding slot
+slot-got w X l = refl
+
+pub slot-ok : {A : Type 0} (w : ℕ) (X : Codec A) (l : List ℕ) → slot w X .ok l ≡ true → X .ok l ≡ true
+unfolding slot
+slot-ok w X l o = and-eq-true-iff (X .ok l) _ .0 o .0
+
+pub wait-got :
+    (l : List ℕ) → wait .get (drop 3 l) ≡ fromWait (pick (eqb (getD l 3 0) 0) (left (pressed .get (drop 4 l))) (right (pick (eqb (getD l 4 0) 0) (left (info .get (drop 5 l))) (right tt))))
+unfolding wait via nothing
+wait-got l =
+    rw (either-got (slot WAIT pressed) _ 3 l, slot-got WAIT pressed (drop 4 l), either-got info (slot INFO nothing) 4 l, slot-got INFO nothing (drop 5 l))
+
+pub wait-ok :
+    (l : List ℕ) → wait .ok (drop 3 l) ≡ true →
+    pick (eqb (getD l 3 0) 0) (slot WAIT pressed .ok (drop 4 l)) (eqb (getD l 3 0) 1 && either info (slot INFO nothing) .ok (drop 4 l)) ≡ true
+unfolding wait via
+wait-ok l o = either-ok (slot WAIT pressed) (either info (slot INFO nothing)) 3 l o
+
+pub entry-got :
+    (l : List ℕ) → entry .get l ≡ entryOf (num 2 0 l) (pick (eqb (getD l 2 0) 0) (left (wait .get (drop 3 l))) (right (event .get (drop 3 l))))
+unfolding entry via
+entry-got l =
+    rw (pair-got (number 2) _ 0 2 l (number-width 2), number-at 0 l 2, either-got (slot EVENT wait) event 2 l, slot-got EVENT wait (drop 3 l))
+
+pub entry-ok :
+    (l : List ℕ) → entry .ok l ≡ true → pick (eqb (getD l 2 0) 0) (slot EVENT wait .ok (drop 3 l)) (eqb (getD l 2 0) 1 && event .ok (drop 3 l)) ≡ true
+unfolding entry via
+entry-ok l o = either-ok (slot EVENT wait) event 2 l (pair-ok (number 2) _ 0 2 l (number-width 2) o .1)
+
+-- ---- the session
+
+entries-length : (l : List ℕ) → length (listOf 2 ENTRIES-MOST entry .get l) ≡ num 2 0 l
+unfolding listOf
+entries-length l = many-count entry (num 2 0 l) (drop 2 l)
+
+held-field-got : (l : List ℕ) → heldField .get (drop 2 l) ≡ fromHeld (pick (eqb (getD l 2 0) 0) (left tt) (right (held .get (drop 3 l))))
+unfolding heldField via nothing
+held-field-got l = rw (either-got (slot HELD nothing) held 2 l, slot-got HELD nothing (drop 3 l))
+
+-- the three fields, one behind the other
+abbrev Fields : Codec (ℕ × (Option Held × List Entry))
+Fields = pair (number 2) (pair heldField (listOf 2 ENTRIES-MOST entry))
+
+decoded :
+    (l : List ℕ) → decode l ≡ record { handed = Fields .get l .0; held = Fields .get l .1 .0; entries = Fields .get l .1 .1 }
+unfolding decode session slot via
+decoded l = refl
+
+pub decode-got :
+    (l : List ℕ) →
+    (decode l .handed ≡ num 2 0 l) × (decode l .held ≡ fromHeld (pick (eqb (getD l 2 0) 0) (left tt) (right (held .get (drop 3 l))))) × (length (decode l .entries) ≡ num 2 107 l)
+decode-got l =
+    rw (decoded l, pair-got (number 2) _ 0 2 l (number-width 2), pair-got heldField _ 2 105 l held-field-width, number-at 0 l 2)
+    (refl, held-field-got l, entries-length (drop 107 l) ∙ num-drop 2 0 107 l)
+
+-- the area is one behind the other, and then zeros
+fields-ok : (l : List ℕ) → sessionOk l ≡ true → Fields .ok l ≡ true
+unfolding sessionOk session slot via
+fields-ok l o =
+    let a = and-eq-true-iff (session .ok l) _ .0 o in and-eq-true-iff (Fields .ok l) _ .0 (a .0) .0
+
+pub area-ok :
+    (l : List ℕ) → sessionOk l ≡ true → pick (eqb (getD l 2 0) 0) (slot HELD nothing .ok (drop 3 l)) (eqb (getD l 2 0) 1 && held .ok (drop 3 l)) ≡ true
+unfolding heldField via
+area-ok l o =
+    let a = pair-ok (number 2) _ 0 2 l (number-width 2) (fields-ok l o) in
+    let b = pair-ok heldField _ 2 105 l held-field-width (a .1) in either-ok (slot HELD nothing) held 2 l (b .0)

@@ -1,0 +1,3 @@
+pub mod Formats
+mod Copy
+mod Read
