@@ -1,0 +1,5 @@
+pub mod Parts
+mod Texts
+pub mod Keys
+mod Units
+pub mod Records

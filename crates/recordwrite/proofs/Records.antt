@@ -1,0 +1,204 @@
+-- The bytes of an event, of what is kept of a press or a release, and of the held press, part by part.
+-- Assumes nothing.
+use mathlib.Core.Path.{_≡_, refl, sym, ap, subst, _∙_}
+use mathlib.Core.Bool.{Bool}
+use mathlib.Core.List.{List, [], _∷_, _++_}
+use Prim.Native.Nat.{ℕ, _+_, _≤_}
+use native.Mathlib.Omega.{arith}
+use lib.ListN.{length, take}
+use Rattle.area.specs.Bytes.{le}
+use Rattle.area.specs.Splice.{splice}
+use Rattle.area.proofs.Bytes.{length-le}
+use Rattle.keys.specs.Location.{locationNumber}
+use Rattle.keys.specs.declared.KeyLocation.{KeyLocation}
+use Rattle.keycode.specs.declared.KeyCode.{KeyCode}
+use Rattle.keystroke.specs.declared.KeyLParam.{KeyLParam}
+use Rattle.session.specs.Limits.{UNITS-MOST, TEXT-MOST, KEY-TEXT-MOST}
+use Rattle.session.specs.Codec.{Codec, byte, number, pair, checked, via, listOf}
+use Rattle.session.specs.Area.{flag, stateNumber, state, location, textBytes, optText, keyCode, fullKey, event, info, INFO, held, pressed}
+use Rattle.session.specs.Types.{asBytes, asText, asKey, asEvent, asInfo, asHeld, EventLens, InfoLens}
+use Rattle.session.specs.declared.ElementState.{ElementState}
+use Rattle.session.specs.declared.Text.{Text}
+use Rattle.session.specs.declared.TextKey.{TextKey}
+use Rattle.session.specs.declared.KeyEvent.{KeyEvent}
+use Rattle.session.specs.declared.PartialKeyEventInfo.{PartialKeyEventInfo}
+use Rattle.session.specs.declared.HeldPress.{HeldPress}
+use Rattle.recordwrite.proofs.Parts.{meet, both, pair-length, written-as}
+use Rattle.recordwrite.proofs.Texts.{text-length, bytes-within, opt-put}
+use Rattle.recordwrite.proofs.Keys.{state-put, location-put, flag-length, state-length, location-length, code-length, key-length}
+
+number-length : (k v : ℕ) → length (number k .put v) ≡ k
+unfolding number
+number-length k v = length-le k v
+
+number-put : (k v : ℕ) → le k v ≡ number k .put v
+unfolding number
+number-put k v = refl
+
+-- ---- location, state, repeat, synthetic
+
+abbrev marks : Codec (KeyLocation × (ElementState × (Bool × Bool)))
+marks = pair location (pair state (pair flag flag))
+
+pub marks-written :
+    (l : KeyLocation) (s : ElementState) (b d : Bool) (at : ℕ) (x : List ℕ) {v w k₁ k₂ k₃ : ℕ} {y₁ y₂ y₃ y₄ : List ℕ} →
+    v ≡ locationNumber l → y₁ ≡ splice at (v ∷ []) x → w ≡ stateNumber s → y₂ ≡ splice k₁ (w ∷ []) y₁ →
+    y₃ ≡ splice k₂ (flag .put b) y₂ → y₄ ≡ splice k₃ (flag .put d) y₃ → k₁ ≡ at + 1 → k₂ ≡ at + 2 → k₃ ≡ at + 3 →
+    y₄ ≡ splice at (marks .put (l, (s, (b, d)))) x
+marks-written l s b d at x {k₁} {k₂} {k₃} {y₁} {y₂} e₁ p₁ e₂ p₂ p₃ p₄ f₁ f₂ f₃ =
+    both location (pair state (pair flag flag)) l (s, (b, d)) at 1 k₁ x (location-length l) f₁ (written-as at x (location-put l e₁) p₁)
+    (both state (pair flag flag) s (b, d) k₁ 1 k₂ y₁ (state-length s) (omega arith) (written-as k₁ y₁ (state-put s e₂) p₂)
+    (both flag flag b d k₂ 1 k₃ y₂ (flag-length b) (omega arith) p₃ p₄))
+
+-- with more behind them
+marks-first :
+    {T : Type 0} (Y : Codec T) (l : KeyLocation) (s : ElementState) (b d : Bool) (t : T) →
+    pair marks Y .put ((l, (s, (b, d))), t) ≡ pair location (pair state (pair flag (pair flag Y))) .put (l, (s, (b, (d, t))))
+unfolding pair location state flag via checked byte
+marks-first Y l s b d t = refl
+
+marks-length : (l : KeyLocation) (s : ElementState) (b d : Bool) → length (marks .put (l, (s, (b, d)))) ≡ 4
+unfolding pair location state flag via checked byte
+marks-length l s b d = refl
+
+-- ---- an event
+
+opt-length : (t : Text) → t .len ≤ TEXT-MOST → length (optText .put (asText t)) ≡ 49
+opt-length t h =
+    ap length (opt-put t) ∙ text-length TEXT-MOST (asBytes t) (omega (arith, bytes-within t)) (omega arith)
+
+event-parts :
+    (e : KeyEvent) (at : ℕ) (x : List ℕ) {k₁ k₂ k₃ k₄ k₅ : ℕ} {y₁ y₂ y₃ y₄ y₅ y₆ : List ℕ} → EventLens e →
+    y₁ ≡ splice at (keyCode .put (e .«physical_key»)) x → y₂ ≡ splice k₁ (fullKey TEXT-MOST .put (asKey (e .«logical_key»))) y₁ →
+    y₃ ≡ splice k₂ (textBytes TEXT-MOST .put (asBytes (e .text))) y₂ →
+    y₄ ≡ splice k₃ (marks .put (e .location, (e .state, (e .repeat, e .«is_synthetic»)))) y₃ →
+    y₅ ≡ splice k₄ (textBytes TEXT-MOST .put (asBytes (e .«text_with_all_modifiers»))) y₄ →
+    y₆ ≡ splice k₅ (fullKey KEY-TEXT-MOST .put (asKey (e .«key_without_modifiers»))) y₅ → k₁ ≡ at + 6 → k₂ ≡ at + 62 →
+    k₃ ≡ at + 111 → k₄ ≡ at + 115 → k₅ ≡ at + 164 → y₆ ≡ splice at (event .put (asEvent e)) x
+unfolding event via asEvent
+event-parts e at x {k₁} {k₂} {k₃} {k₄} {k₅} {y₁} {y₂} {y₃} {y₄} {y₅} h p₁ p₂ p₃ p₄ p₅ p₆ f₁ f₂ f₃ f₄ f₅ =
+    let l = asKey (e .«logical_key») in
+    let w = asKey (e .«key_without_modifiers») in
+    let t = asText (e .text) in
+    let u = asText (e .«text_with_all_modifiers») in
+    let tail = pair optText (fullKey KEY-TEXT-MOST) in
+    let rest = pair location (pair state (pair flag (pair flag tail))) in
+    both keyCode (pair (fullKey TEXT-MOST) (pair optText rest)) (e .«physical_key») _ at 6 k₁ x (code-length (e .«physical_key»)) f₁ p₁
+    (both (fullKey TEXT-MOST) (pair optText rest) l _ k₁ 56 k₂ y₁ (key-length TEXT-MOST (e .«logical_key») (h .logicalKey) (omega arith)) (omega arith) p₂
+    (both optText rest t _ k₂ 49 k₃ y₂ (opt-length (e .text) (h .text)) (omega arith) (written-as k₂ y₂ (sym (opt-put (e .text))) p₃)
+    (written-as k₃ y₃ (marks-first tail (e .location) (e .state) (e .repeat) (e .«is_synthetic») (u, w))
+    (both marks tail _ (u, w) k₃ 4 k₄ y₃ (marks-length (e .location) (e .state) (e .repeat) (e .«is_synthetic»)) (omega arith) p₄
+    (both optText (fullKey KEY-TEXT-MOST) u w k₄ 49 k₅ y₄ (opt-length (e .«text_with_all_modifiers») (h .textWithAllModifiers)) (omega arith)
+    (written-as k₄ y₄ (sym (opt-put (e .«text_with_all_modifiers»))) p₅) p₆)))))
+
+-- what was written is the event's own
+pub event-written :
+    (e : KeyEvent) (at : ℕ) (x : List ℕ) {c : KeyCode} {l w : TextKey} {t u : Text} {p : KeyLocation} {s : ElementState} {b d : Bool}
+    {k₁ k₂ k₃ k₄ k₅ : ℕ} {y₁ y₂ y₃ y₄ y₅ y₆ : List ℕ} → EventLens e → y₁ ≡ splice at (keyCode .put c) x →
+    y₂ ≡ splice k₁ (fullKey TEXT-MOST .put (asKey l)) y₁ → y₃ ≡ splice k₂ (textBytes TEXT-MOST .put (asBytes t)) y₂ →
+    y₄ ≡ splice k₃ (marks .put (p, (s, (b, d)))) y₃ → y₅ ≡ splice k₄ (textBytes TEXT-MOST .put (asBytes u)) y₄ →
+    y₆ ≡ splice k₅ (fullKey KEY-TEXT-MOST .put (asKey w)) y₅ → k₁ ≡ at + 6 → k₂ ≡ at + 62 → k₃ ≡ at + 111 → k₄ ≡ at + 115 →
+    k₅ ≡ at + 164 →
+    _≡_ {A = KeyEvent}
+    (record {
+      «physical_key» = c;
+      «logical_key» = l;
+      text = t;
+      location = p;
+      state = s;
+      repeat = b;
+      «is_synthetic» = d;
+      «text_with_all_modifiers» = u;
+      «key_without_modifiers» = w;
+    })
+    e → y₆ ≡ splice at (event .put (asEvent e)) x
+event-written e at x h p₁ p₂ p₃ p₄ p₅ p₆ f₁ f₂ f₃ f₄ f₅ q =
+    event-parts _ at x (subst EventLens (sym q) h) p₁ p₂ p₃ p₄ p₅ p₆ f₁ f₂ f₃ f₄ f₅
+    ∙ ap (λ (o : KeyEvent). splice at (event .put (asEvent o)) x) q
+
+-- ---- what is kept of a press or a release
+
+info-parts :
+    (n : PartialKeyEventInfo) (at : ℕ) (x : List ℕ) {v k₁ k₂ k₃ k₄ : ℕ} {y₁ y₂ y₃ y₄ y₅ : List ℕ} → InfoLens n →
+    y₁ ≡ splice at (le 2 (n .scancode)) x → y₂ ≡ splice k₁ (flag .put (n .«is_repeat»)) y₁ →
+    v ≡ locationNumber (n .location) → y₃ ≡ splice k₂ (v ∷ []) y₂ →
+    y₄ ≡ splice k₃ (fullKey KEY-TEXT-MOST .put (asKey (n .«logical_key»))) y₃ →
+    y₅ ≡ splice k₄ (fullKey KEY-TEXT-MOST .put (asKey (n .«key_without_modifiers»))) y₄ → k₁ ≡ at + 2 → k₂ ≡ at + 3 →
+    k₃ ≡ at + 4 → k₄ ≡ at + 36 → y₅ ≡ splice at (info .put (asInfo n)) x
+unfolding info via asInfo
+info-parts n at x {k₁} {k₂} {k₃} {k₄} {y₁} {y₂} {y₃} {y₄} h p₁ p₂ e₃ p₃ p₄ p₅ f₁ f₂ f₃ f₄ =
+    let key = fullKey KEY-TEXT-MOST in
+    let l = asKey (n .«logical_key») in
+    let w = asKey (n .«key_without_modifiers») in
+    both (number 2) (pair flag (pair location (pair key key))) (n .scancode) (n .«is_repeat», (n .location, (l, w))) at 2 k₁ x
+    (number-length 2 (n .scancode)) f₁ (written-as at x (number-put 2 (n .scancode)) p₁)
+    (both flag (pair location (pair key key)) (n .«is_repeat») (n .location, (l, w)) k₁ 1 k₂ y₁ (flag-length (n .«is_repeat»)) (omega arith) p₂
+    (both location (pair key key) (n .location) (l, w) k₂ 1 k₃ y₂ (location-length (n .location)) (omega arith) (written-as k₂ y₂ (location-put (n .location) e₃) p₃)
+    (both key key l w k₃ 32 k₄ y₃ (key-length KEY-TEXT-MOST (n .«logical_key») (h .logicalKey) (omega arith)) (omega arith) p₄ p₅)))
+
+pub info-written :
+    (n : PartialKeyEventInfo) (at : ℕ) (x : List ℕ) {c v k₁ k₂ k₃ k₄ : ℕ} {b : Bool} {p : KeyLocation} {l w : TextKey}
+    {y₁ y₂ y₃ y₄ y₅ : List ℕ} → InfoLens n → y₁ ≡ splice at (le 2 c) x → y₂ ≡ splice k₁ (flag .put b) y₁ →
+    v ≡ locationNumber p → y₃ ≡ splice k₂ (v ∷ []) y₂ → y₄ ≡ splice k₃ (fullKey KEY-TEXT-MOST .put (asKey l)) y₃ →
+    y₅ ≡ splice k₄ (fullKey KEY-TEXT-MOST .put (asKey w)) y₄ → k₁ ≡ at + 2 → k₂ ≡ at + 3 → k₃ ≡ at + 4 → k₄ ≡ at + 36 →
+    _≡_ {A = PartialKeyEventInfo}
+    (record { scancode = c; «is_repeat» = b; location = p; «logical_key» = l; «key_without_modifiers» = w })
+    n → y₅ ≡ splice at (info .put (asInfo n)) x
+info-written n at x h p₁ p₂ e₃ p₃ p₄ p₅ f₁ f₂ f₃ f₄ q =
+    info-parts _ at x (subst InfoLens (sym q) h) p₁ p₂ e₃ p₃ p₄ p₅ f₁ f₂ f₃ f₄
+    ∙ ap (λ (o : PartialKeyEventInfo). splice at (info .put (asInfo o)) x) q
+
+pub info-length : (n : PartialKeyEventInfo) → InfoLens n → length (info .put (asInfo n)) ≡ INFO
+unfolding info via asInfo
+info-length n h =
+    let key = fullKey KEY-TEXT-MOST in
+    let l = asKey (n .«logical_key») in
+    let w = asKey (n .«key_without_modifiers») in
+    pair-length (number 2) (pair flag (pair location (pair key key))) (n .scancode) (n .«is_repeat», (n .location, (l, w))) 2 66 (number-length 2 (n .scancode))
+    (pair-length flag (pair location (pair key key)) (n .«is_repeat») (n .location, (l, w)) 1 65 (flag-length (n .«is_repeat»))
+    (pair-length location (pair key key) (n .location) (l, w) 1 64 (location-length (n .location))
+    (pair-length key key l w 32 32 (key-length KEY-TEXT-MOST (n .«logical_key») (h .logicalKey) (omega arith)) (key-length KEY-TEXT-MOST (n .«key_without_modifiers») (h .keyWithoutModifiers) (omega arith)))))
+
+-- ---- the held press
+
+held-parts :
+    (p : HeldPress) (at : ℕ) (x : List ℕ) {k₁ k₂ k₃ : ℕ} {y₁ y₂ y₃ y₄ : List ℕ} → InfoLens (p .info) →
+    y₁ ≡ splice at (info .put (asInfo (p .info))) x → y₂ ≡ splice k₁ (le 2 (p .vkey)) y₁ →
+    y₃ ≡ splice k₂ (flag .put (p .mark)) y₂ → y₄ ≡ splice k₃ (listOf 1 UNITS-MOST (number 2) .put (take (p .len) (p .units))) y₃ →
+    k₁ ≡ at + 68 → k₂ ≡ at + 70 → k₃ ≡ at + 71 → y₄ ≡ splice at (held .put (asHeld p)) x
+unfolding held via asHeld
+held-parts p at x {k₁} {k₂} {k₃} {y₁} {y₂} h p₁ p₂ p₃ p₄ f₁ f₂ f₃ =
+    let units = listOf 1 UNITS-MOST (number 2) in
+    let us = take (p .len) (p .units) in
+    both info (pair (number 2) (pair flag units)) (asInfo (p .info)) (p .vkey, (p .mark, us)) at 68 k₁ x (info-length (p .info) h) f₁ p₁
+    (both (number 2) (pair flag units) (p .vkey) (p .mark, us) k₁ 2 k₂ y₁ (number-length 2 (p .vkey)) (omega arith) (written-as k₁ y₁ (number-put 2 (p .vkey)) p₂)
+    (both flag units (p .mark) us k₂ 1 k₃ y₂ (flag-length (p .mark)) (omega arith) p₃ p₄))
+
+pub held-written :
+    (h : HeldPress) (at : ℕ) (x : List ℕ) {n : PartialKeyEventInfo} {w k₁ k₂ k₃ len : ℕ} {b : Bool} {us y₁ y₂ y₃ y₄ : List ℕ} →
+    InfoLens (h .info) → y₁ ≡ splice at (info .put (asInfo n)) x → y₂ ≡ splice k₁ (le 2 w) y₁ →
+    y₃ ≡ splice k₂ (flag .put b) y₂ → y₄ ≡ splice k₃ (listOf 1 UNITS-MOST (number 2) .put (take len us)) y₃ → k₁ ≡ at + 68 →
+    k₂ ≡ at + 70 → k₃ ≡ at + 71 → _≡_ {A = HeldPress} (record { info = n; vkey = w; mark = b; units = us; len = len }) h →
+    y₄ ≡ splice at (held .put (asHeld h)) x
+held-written h at x i p₁ p₂ p₃ p₄ f₁ f₂ f₃ q =
+    held-parts _ at x (subst (λ (o : HeldPress). InfoLens (o .info)) (sym q) i) p₁ p₂ p₃ p₄ f₁ f₂ f₃
+    ∙ ap (λ (o : HeldPress). splice at (held .put (asHeld o)) x) q
+
+-- ---- an open press
+
+pub pressed-written :
+    (v : ℕ) (l : KeyLParam) (at : ℕ) (x : List ℕ) {w n k₁ k₂ k₃ : ℕ} {b d : Bool} {y₁ y₂ y₃ y₄ : List ℕ} →
+    y₁ ≡ splice at (le 2 w) x → y₂ ≡ splice k₁ (n ∷ []) y₁ → y₃ ≡ splice k₂ (flag .put b) y₂ → y₄ ≡ splice k₃ (flag .put d) y₃ →
+    w ≡ v → k₁ ≡ at + 2 → k₂ ≡ at + 3 → k₃ ≡ at + 4 →
+    _≡_ {A = KeyLParam} (record { scancode = n; extended = b; «is_repeat» = d }) l → y₄ ≡ splice at (pressed .put (v, l)) x
+unfolding pressed via pair number byte
+pressed-written v l at x {w} {n} {k₁} {k₂} {k₃} {b} {d} {y₁} {y₂} p₁ p₂ p₃ p₄ e f₁ f₂ f₃ q =
+    meet at 2 k₁ (le 2 w) ((n ∷ []) ++ (flag .put b ++ flag .put d)) x (length-le 2 w) f₁ p₁
+    (meet k₁ 1 k₂ (n ∷ []) (flag .put b ++ flag .put d) y₁ refl (omega arith) p₂
+    (meet k₂ 1 k₃ (flag .put b) (flag .put d) y₂ (flag-length b) (omega arith) p₃ p₄))
+    ∙ ap (λ (o : KeyLParam). splice at (pressed .put (w, o)) x) q
+    ∙ ap (λ (u : ℕ). splice at (pressed .put (u, l)) x) e
+
+pub pressed-length : (v : ℕ) (l : KeyLParam) → length (pressed .put (v, l)) ≡ 5
+unfolding pressed via pair number byte flag checked le
+pressed-length v l = refl
