@@ -1,0 +1,4 @@
+mod Texts
+mod Keys
+mod Events
+mod Units
