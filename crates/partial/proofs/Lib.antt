@@ -1,0 +1,2 @@
+mod Forced
+mod Info
