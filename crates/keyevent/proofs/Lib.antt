@@ -1,4 +1,4 @@
-mod Texts
+pub mod Texts
 mod Keys
 mod Events
 mod Units

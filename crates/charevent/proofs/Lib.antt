@@ -1,0 +1,3 @@
+mod Texts
+mod Last
+mod Fake

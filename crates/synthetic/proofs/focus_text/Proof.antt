@@ -1,0 +1,31 @@
+-- `synthetic::focus_text` meets its contract.
+-- Assumes nothing.
+use mathlib.Core.Path.{refl}
+use Rattle.synthetic.proofs.Synthetic.{at-gain, at-loss}
+use Rattle.synthetic.proofs.focus_text.Statement.{statement}
+use Rattle.synthetic.proofs.focus_text.Tie as tie
+
+enum-told : tie.Need-enum-told
+enum-told c = c .match .keys1
+
+key-text-requires : tie.Need-key-text-requires
+key-text-requires c κs = c .before .before .pre
+
+enum-told-2 : tie.Need-enum-told-2
+enum-told-2 c = c .match .keys2
+
+returns : tie.Need-returns
+returns c = let s = c .before .before .before in at-gain (s .args .st) (s .args .k) _ (c .before .enum-told .given .1) (c .key-text .ensures)
+
+returns-2 : tie.Need-returns-2
+returns-2 c = let s = c .before .before in at-loss (s .args .st) (s .args .k) _ (c .enum-told2 .given .1) refl
+
+pub focus-text-spec : {M : Type 1} → statement M
+focus-text-spec =
+    tie.close
+    (tie.spec
+    enum-told
+    key-text-requires
+    enum-told-2
+    returns
+    returns-2)
