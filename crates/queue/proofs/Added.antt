@@ -1,0 +1,98 @@
+-- What the writes make of an area: an entry behind the last one, the held press.
+-- Assumes nothing.
+use mathlib.Core.Path.{_≡_, refl, sym, ap, _∙_}
+use mathlib.Core.Bool.{true}
+use mathlib.Core.List.{List, [], _∷_, _++_}
+use mathlib.Core.Option.{Option, some}
+use Prim.Native.Nat.{ℕ, suc, _+_, _*_, _≤_, _<_}
+use native.Mathlib.Omega.{arith}
+use lib.ListN.{getD, length, length-take}
+use borrow.Author.Tests.{lt-ltb}
+use Rattle.area.specs.Bytes.{le}
+use Rattle.area.specs.Splice.{splice}
+use Rattle.keystroke.specs.declared.KeyLParam.{KeyLParam}
+use Rattle.session.specs.Limits.{ENTRIES-MOST, TOKENS-MOST, UNITS-MOST}
+use Rattle.session.specs.Event.{Event, Info, Held}
+use Rattle.session.specs.Session.{Wait, press, release, character, Entry, waiting, complete, Session, tokenOf, waitFits, entryFits, eventFits, infoFits, heldFits}
+use Rattle.session.specs.Area.{entry, heldField, encode, decode}
+use Rattle.session.specs.Calls.{opening}
+use Rattle.session.specs.Types.{asHeld}
+use Rattle.session.specs.declared.HeldPress.{HeldPress}
+use Rattle.session.proofs.Area.{OptHeldFits}
+use Rattle.session.proofs.Writes.{Stored, handed-put, held-put, entry-put, put-stored}
+use Rattle.queue.specs.Room.{IsArea, HasRoom}
+use Rattle.queue.proofs.Kept.{kept}
+
+pub counted :
+    (n h : ℕ) (x : List ℕ) {y z : List ℕ} {m k : ℕ} → y ≡ splice 107 (le 2 m) x → z ≡ splice 0 (le 2 k) y → m ≡ n + 1 → k ≡ h + 1 →
+    z ≡ splice 0 (le 2 (h + 1)) (splice 107 (le 2 (n + 1)) x)
+counted n h x p q u v = rw (q, p, u, v) refl
+
+-- an entry, the count, the tokens handed out
+put-all :
+    (s : Session) → Stored s → (e : Entry) → tokenOf e < 65536 → entryFits e ≡ true → length (s .entries) < ENTRIES-MOST →
+    splice 0 (le 2 (s .handed + 1)) (splice 107 (le 2 (length (s .entries) + 1)) (splice (109 + 199 * length (s .entries)) (entry .put e) (encode s)))
+    ≡ encode (record { handed = s .handed + 1; held = s .held; entries = s .entries ++ (e ∷ []) })
+put-all s f e t g h =
+    ap (λ (l : List ℕ). splice 0 (le 2 (s .handed + 1)) l) (entry-put s f e (t, g) h)
+    ∙ handed-put (record { handed = s .handed; held = s .held; entries = s .entries ++ (e ∷ []) }) (put-stored s f e (t, g) h) (s .handed + 1)
+
+added :
+    (x : List ℕ) → ((i : ℕ) → getD x i 0 < 256) → HasRoom x → (e : Entry) → tokenOf e ≡ decode x .handed → entryFits e ≡ true →
+    {k n h : ℕ} {y z : List ℕ} → y ≡ splice k (entry .put e) x → z ≡ splice 0 (le 2 (h + 1)) (splice 107 (le 2 (n + 1)) y) →
+    k ≡ 109 + 199 * n → n ≡ length (decode x .entries) → h ≡ decode x .handed →
+    z ≡ encode (record { handed = decode x .handed + 1; held = decode x .held; entries = decode x .entries ++ (e ∷ []) })
+added x b r e t g {k} {n} {h} {y} {z} p q u v w =
+    let s = decode x in
+    let o = kept x b (r .size) (r .passed) in
+    let i : s .handed < TOKENS-MOST = r .token in
+    q
+    ∙ ap (λ (l : List ℕ). splice 0 (le 2 (h + 1)) (splice 107 (le 2 (n + 1)) l)) p
+    ∙ ap (λ (l : List ℕ). splice 0 (le 2 (h + 1)) (splice 107 (le 2 (n + 1)) (splice k (entry .put e) l))) (sym (o .1))
+    ∙ rw (u, v, w) (put-all s (o .0) e (omega (arith, t)) g (r .entry))
+
+-- an open message
+module _ (x : List ℕ) (b : (i : ℕ) → getD x i 0 < 256) (r : HasRoom x) where
+  pub opened :
+      (w : Wait) → waitFits w ≡ true → {t a k n h : ℕ} {y z : List ℕ} →
+      y ≡ splice k (entry .put (waiting t w)) x → z ≡ splice 0 (le 2 (h + 1)) (splice 107 (le 2 (n + 1)) y) →
+      n ≡ length (decode x .entries) → h ≡ decode x .handed → k ≡ 109 + 199 * n → t ≡ h → a ≡ h →
+      (a ≡ decode x .handed) × (z ≡ encode (opening (decode x) w (decode x .held) .after))
+  unfolding opening entryFits
+  opened w g {t} p q v i u j m =
+      let s : decode x .handed + 1 ≡ suc (decode x .handed) = omega arith in
+      (m ∙ i, added x b r (waiting t w) (j ∙ i) g p q u v i ∙ rw (j, i, s) refl)
+
+  pub completed :
+      (e : Event) → eventFits e ≡ true → {t k n h : ℕ} {y z : List ℕ} →
+      y ≡ splice k (entry .put (complete t e)) x → z ≡ splice 0 (le 2 (h + 1)) (splice 107 (le 2 (n + 1)) y) →
+      n ≡ length (decode x .entries) → h ≡ decode x .handed → k ≡ 109 + 199 * n → t ≡ h →
+      z ≡ encode (record { handed = decode x .handed + 1; held = decode x .held; entries = decode x .entries ++ (complete (decode x .handed) e ∷ []) })
+  unfolding entryFits
+  completed e g {t} p q v i u j = added x b r (complete t e) (j ∙ i) g p q u v i ∙ rw (j, i) refl
+
+pub press-fits : (vkey : ℕ) (l : KeyLParam) → vkey < 65536 → l .scancode < 256 → waitFits (press vkey l) ≡ true
+unfolding waitFits
+press-fits vkey l h k = rw (lt-ltb vkey 65536 h, lt-ltb (l .scancode) 256 k) refl
+
+pub release-fits : (n : Info) → infoFits n ≡ true → waitFits (release n) ≡ true
+unfolding waitFits
+release-fits n h = h
+
+pub character-fits : waitFits character ≡ true
+unfolding waitFits
+character-fits = refl
+
+-- ---- the held press
+
+pub held-fits : (h : HeldPress) → h .len ≤ UNITS-MOST → heldFits (some (asHeld h)) ≡ true → OptHeldFits (some (asHeld h))
+unfolding asHeld
+held-fits h l f = (f, omega (arith, length-take (h .len) (h .units)))
+
+pub held-set :
+    (x : List ℕ) → ((i : ℕ) → getD x i 0 < 256) → IsArea x → (o : Option Held) → OptHeldFits o → {k : ℕ} {y : List ℕ} →
+    y ≡ splice k (heldField .put o) x → k ≡ 2 →
+    y ≡ encode (record { handed = decode x .handed; held = o; entries = decode x .entries })
+held-set x b r o f {k} p u =
+    let q = kept x b (r .size) (r .passed) in
+    p ∙ ap (λ (l : List ℕ). splice k (heldField .put o) l) (sym (q .1)) ∙ rw u (held-put (decode x) (q .0) o f)
