@@ -2,18 +2,14 @@
 -- Assumes nothing.
 use mathlib.Core.Path.{_≡_}
 use mathlib.Core.Bool.{true}
-use mathlib.Core.List.{List, [], _∷_}
-use Prim.Native.Nat.{ℕ, zero, suc, _<_}
+use mathlib.Core.List.{List}
+use Prim.Native.Nat.{ℕ, _<_}
 use lib.ListN.{getD, length}
-use Rattle.area.specs.Bytes.{Bytes}
+use Rattle.area.proofs.Bytes.{each-byte}
 use Rattle.session.specs.Limits.{AREA}
 use Rattle.session.specs.Area.{encode, decode, sessionOk}
 use Rattle.session.proofs.Area.{session-exact}
 use Rattle.session.proofs.Writes.{Stored, stored}
-
-each-byte : (l : List ℕ) → ((i : ℕ) → getD l i 0 < 256) → Bytes l
-each-byte [] h = tt
-each-byte (x ∷ l) h = (h zero, each-byte l (λ i. h (suc i)))
 
 pub kept :
     (x : List ℕ) → ((i : ℕ) → getD x i 0 < 256) → length x ≡ AREA → sessionOk x ≡ true →

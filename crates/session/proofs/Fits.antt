@@ -238,7 +238,7 @@ focus-text-fits Pressed k e = to-text-fits k e
 focus-text-fits Released k e = no-text
 
 module _ (b : Keyboard) (st : ElementState) where
-  synthetic-fits : (vk scancode : ℕ) → KeyboardOk b → scancode < 65536 → eventFits (syntheticEvent b st vk scancode) ≡ true
+  pub synthetic-fits : (vk scancode : ℕ) → KeyboardOk b → scancode < 65536 → eventFits (syntheticEvent b st vk scancode) ≡ true
   unfolding syntheticEvent focusKey
   synthetic-fits vk scancode ok h =
       let k : KeyFits (focusKey b vk scancode) = layout-fits b _ _ vk scancode ok h in

@@ -42,7 +42,7 @@ pub record Leaves (e : Effect) : Type 0 where
 
 -- ---- lists of entries
 
-count-append : (A B : List Entry) → openCount (A ++ B) ≡ openCount A + openCount B
+pub count-append : (A B : List Entry) → openCount (A ++ B) ≡ openCount A + openCount B
 unfolding openCount
 count-append [] B = omega arith
 count-append (waiting t w ∷ A) B = omega (arith, count-append A B)
@@ -53,12 +53,12 @@ unfolding numbered openCount
 count-numbered t [] = refl
 count-numbered t (e ∷ es) = count-numbered (suc t) es
 
-length-numbered : (t : ℕ) (es : List Event) → length (numbered t es) ≡ length es
+pub length-numbered : (t : ℕ) (es : List Event) → length (numbered t es) ≡ length es
 unfolding numbered
 length-numbered t [] = refl
 length-numbered t (e ∷ es) = ap suc (length-numbered (suc t) es)
 
-fit-append : (A B : List Entry) → entriesFit A ≡ true → entriesFit B ≡ true → entriesFit (A ++ B) ≡ true
+pub fit-append : (A B : List Entry) → entriesFit A ≡ true → entriesFit B ≡ true → entriesFit (A ++ B) ≡ true
 unfolding entriesFit
 fit-append [] B a b = b
 fit-append (x ∷ A) B a b =
@@ -116,7 +116,7 @@ unfolding entryFits
 wait-fits (waiting t w) k = k
 wait-fits (complete t e) k = tt
 
-find-fits : (t : ℕ) (l : List Entry) → entriesFit l ≡ true → WaitIn (findWait t l)
+pub find-fits : (t : ℕ) (l : List Entry) → entriesFit l ≡ true → WaitIn (findWait t l)
 unfolding findWait entriesFit
 find-fits t [] k = tt
 find-fits t (x ∷ l) k =

@@ -36,12 +36,12 @@ over at p b b′ r e l m =
     ∙ rw (take-at p (b ++ r) at l, m, ← drop-drop (length b) at x, drop-at p (b ++ r) at l, drop-at b r (length b) refl) (append-assoc p b′ r)
 
 module _ {A : Type 0} (X : Codec A) where
-  many-append : (s t : List A) → putMany X (s ++ t) ≡ putMany X s ++ putMany X t
+  pub many-append : (s t : List A) → putMany X (s ++ t) ≡ putMany X s ++ putMany X t
   unfolding putMany
   many-append [] t = refl
   many-append (a ∷ s) t = rw (append-assoc, many-append s t)
 
-  many-one : (a : A) → putMany X (a ∷ []) ≡ X .put a
+  pub many-one : (a : A) → putMany X (a ∷ []) ≡ X .put a
   unfolding putMany
   many-one a = append-nil (X .put a)
 
@@ -316,7 +316,7 @@ answer-list : (es : List Event) → encodeAnswer es ≡ padded AREA (listOf 2 EN
 unfolding encodeAnswer answer slot
 answer-list es = refl
 
-events-length : (es : List Event) → allFit es ≡ true → length (putMany event es) ≡ 196 * length es
+pub events-length : (es : List Event) → allFit es ≡ true → length (putMany event es) ≡ 196 * length es
 events-length es f = many-sized event event-sound es (events-each es f) ∙ rw event-width (omega arith)
 
 pub answer-as :

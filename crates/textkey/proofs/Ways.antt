@@ -2,15 +2,15 @@
 -- Assumes nothing.
 use mathlib.Core.Path.{_≡_, refl, sym, ap, _∙_}
 use mathlib.Core.Bool.{Bool, true, and-eq-true-iff}
-use mathlib.Core.List.{List, [], _∷_}
-use Prim.Native.Nat.{ℕ, zero, suc, _-_, _≤_, _<_}
+use mathlib.Core.List.{List, []}
+use Prim.Native.Nat.{ℕ, _-_, _≤_, _<_}
 use native.Mathlib.Nat.{sub-zero}
 use native.Mathlib.Omega.{arith}
 use lib.Dec.{ltb, leb}
 use lib.ListN.{length, take, getD}
 use borrow.Author.Tests.{leb-true}
-use Rattle.area.specs.Bytes.{Bytes}
 use Rattle.area.specs.Splice.{padded}
+use Rattle.area.proofs.Bytes.{each-byte}
 use Rattle.area.proofs.Splice.{length-padded}
 use Rattle.text.specs.Unicode.{scalar, utf8Of}
 use Rattle.text.specs.Stored.{encoded}
@@ -75,10 +75,6 @@ without-text key k t r e same b =
     (ap asKey b ∙ ap (λ (x : Key). full x []) e ∙ same ∙ sym (ap (λ (x : Key). full x t) e), omega (arith, ap (λ (x : TextKey). x .text .len) b))
 
 -- ---- layout_key
-
-each-byte : (l : List ℕ) → ((i : ℕ) → getD l i 0 < 256) → Bytes l
-each-byte [] h = tt
-each-byte (x ∷ l) h = (h zero, each-byte l (λ i. h (suc i)))
 
 module _ (block : List ℕ) (bytes : (i : ℕ) → getD block i 0 < 256) (ok : blockOk block ≡ true) where
   -- the layout's keys are in range
