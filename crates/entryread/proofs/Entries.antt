@@ -5,14 +5,14 @@ use mathlib.Core.Bool.{true, _&&_, and-eq-true-iff}
 use mathlib.Core.List.{List}
 use mathlib.Core.Option.{Option}
 use Prim.Native.Nat.{ℕ, _+_}
-use lib.Dec.{eqb}
+use lib.Dec.{eqb, leb}
 use lib.ListN.{length, drop, getD}
 use lib.Seq.{drop-drop, getD-drop}
 use Rattle.area.specs.Pick.{pick}
 use Rattle.area.specs.Bytes.{num}
 use Rattle.area.proofs.Bytes.{num-drop}
 use Rattle.session.specs.Limits.{ENTRIES-MOST}
-use Rattle.session.specs.Codec.{Codec, byte, number, nothing, pair, via, slot, left, right, either, listOf}
+use Rattle.session.specs.Codec.{Codec, byte, number, nothing, pair, via, slot, left, right, either, getMany, okMany, listOf}
 use Rattle.session.specs.Event.{Held}
 use Rattle.session.specs.Session.{Entry}
 use Rattle.session.specs.Area.{flag, event, info, held, pressed, INFO, WAIT, EVENT, fromWait, wait, entryOf, entry, fromHeld, HELD, heldField, session, decode, sessionOk}
@@ -98,6 +98,20 @@ decode-got l =
     rw (decoded l, pair-got (number 2) _ 0 2 l (number-width 2), pair-got heldField _ 2 105 l held-field-width, number-at 0 l 2)
     (refl, held-field-got l, entries-length (drop 107 l) ∙ num-drop 2 0 107 l)
 
+list-ok : (l : List ℕ) → listOf 2 ENTRIES-MOST entry .ok l ≡ true → okMany entry (num 2 0 l) (drop 2 l) ≡ true
+unfolding listOf
+list-ok l o =
+    let a = and-eq-true-iff (leb (num 2 0 l) ENTRIES-MOST) _ .0 o in and-eq-true-iff (okMany entry (num 2 0 l) (drop 2 l)) _ .0 (a .1) .0
+
+entries-as : (l : List ℕ) → listOf 2 ENTRIES-MOST entry .get l ≡ getMany entry (num 2 0 l) (drop 2 l)
+unfolding listOf
+entries-as l = refl
+
+pub decode-entries : (l : List ℕ) → decode l .entries ≡ getMany entry (num 2 107 l) (drop 109 l)
+decode-entries l =
+    rw (decoded l, pair-got (number 2) _ 0 2 l (number-width 2), pair-got heldField _ 2 105 l held-field-width)
+    (entries-as (drop 107 l) ∙ rw (num-drop 2 0 107 l, drop-drop 2 107 l))
+
 -- the area is one behind the other, and then zeros
 fields-ok : (l : List ℕ) → sessionOk l ≡ true → Fields .ok l ≡ true
 unfolding sessionOk session slot via
@@ -110,3 +124,10 @@ unfolding heldField via
 area-ok l o =
     let a = pair-ok (number 2) _ 0 2 l (number-width 2) (fields-ok l o) in
     let b = pair-ok heldField _ 2 105 l held-field-width (a .1) in either-ok (slot HELD nothing) held 2 l (b .0)
+
+-- its entries are in order
+pub entries-ok : (l : List ℕ) → sessionOk l ≡ true → okMany entry (num 2 107 l) (drop 109 l) ≡ true
+entries-ok l o =
+    let a = pair-ok (number 2) _ 0 2 l (number-width 2) (fields-ok l o) in
+    let b = pair-ok heldField _ 2 105 l held-field-width (a .1) in
+    rw (num-drop 2 0 107 l, drop-drop 2 107 l) at (list-ok (drop 107 l) (b .1))

@@ -1,9 +1,11 @@
 // Reads the entries of the queue and the header of a session's area. docs/AREAS.md has their offsets.
 ghost use mathlib.Core.Path.{_≡_};
 ghost use mathlib.Core.Bool.{true};
-ghost use Prim.Native.Nat.{_≤_};
+ghost use Prim.Native.Nat.{_*_, _≤_};
 ghost use lib.ListN.{length};
-ghost use Rattle.session.specs.Session.{tokenOf};
+ghost use Rattle.session.specs.Limits.{ENTRIES-MOST};
+ghost use Rattle.session.specs.Codec.{getMany};
+ghost use Rattle.session.specs.Session.{tokenOf, openCount};
 ghost use Rattle.session.specs.Area.{pressed, entry, decode};
 ghost use Rattle.session.specs.Questions.{isHeld};
 ghost use Rattle.entryread.specs.Pending.{pendingOf};
@@ -77,4 +79,20 @@ pub fn header_at(area: &[u8]) -> Header
         held: area[2] != 0,
         count: area::get_u16(area, 107),
     }
+}
+
+// How many of n entries, from the first byte on, are unresolved: how many messages are open.
+pub fn open_count(s: &[u8], n: usize) -> usize
+    requires { ⌜ (n ≤ ENTRIES-MOST) × (n * 199 ≤ length (now s)) ⌝ }
+    ensures { λ r. ⌜ r ≡ openCount (getMany entry n (now (s .entry))) ⌝ }
+{
+    let mut i: usize = 0;
+    let mut open: usize = 0;
+    while i < n {
+        if s[199 * i + 2] == 0 {
+            open += 1;
+        }
+        i += 1;
+    }
+    open
 }

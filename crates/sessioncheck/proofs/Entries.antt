@@ -4,7 +4,7 @@ use mathlib.Core.Path.{_≡_, refl, sym, ap, _∙_}
 use mathlib.Core.Bool.{Bool, true, false, _&&_}
 use mathlib.Core.List.{List, _∷_}
 use Prim.Native.Nat.{ℕ, suc, _+_, _-_, _*_, _≤_, _<_}
-use native.Mathlib.Nat.{mul-add, mul-one, sub-zero}
+use native.Mathlib.Nat.{sub-zero}
 use native.Mathlib.Omega.{arith}
 use lib.ListN.{length, take, drop, getD}
 use lib.Seq.{drop-drop, getD-drop}
@@ -14,6 +14,7 @@ use Rattle.area.proofs.Splice.{part-rest}
 use Rattle.session.specs.Codec.{Codec, byte, number, nothing, pair, checked, via, slot, either, getMany, okMany}
 use Rattle.session.specs.Area.{flag, event, info, held, pressed, wait, entry, heldField, INFO, WAIT, EVENT, HELD}
 use Rattle.session.proofs.Area.{entry-width}
+use Rattle.entryread.proofs.Walk.{next-place}
 use Rattle.sessioncheck.proofs.Texts.{stop, next}
 
 -- ---- tests one after the other
@@ -151,16 +152,9 @@ module _ (l : List ℕ) where
 -- ---- values one behind the other, of which i are read
 
 module _ {A : Type 0} (X : Codec A) (w : ℕ) (e : X .width ≡ w) (n i : ℕ) (x : List ℕ) where
-  next-place : drop (X .width) (drop (w * i) x) ≡ drop (w * (i + 1)) x
-  next-place = rw (e, mul-add w i 1, mul-one w) (drop-drop w (w * i) x)
-
   many-ok : i < n → okMany X (n - i) (drop (w * i) x) ≡ (X .ok (drop (w * i) x) && okMany X (n - (i + 1)) (drop (w * (i + 1)) x))
   unfolding okMany
-  many-ok h = let s : n - i ≡ suc (n - (i + 1)) = omega arith in rw (s, ← next-place)
-
-  pub many-got : i < n → getMany X (n - i) (drop (w * i) x) ≡ X .get (drop (w * i) x) ∷ getMany X (n - (i + 1)) (drop (w * (i + 1)) x)
-  unfolding getMany
-  many-got h = let s : n - i ≡ suc (n - (i + 1)) = omega arith in rw (s, ← next-place)
+  many-ok h = let s : n - i ≡ suc (n - (i + 1)) = omega arith in rw (s, ← next-place X w e n i x)
 
 -- ---- a loop over the entries that has come to entry i
 

@@ -1,4 +1,4 @@
--- The order of the queue: tokens that rise, the first entry, how many messages are open.
+-- The order of the queue: tokens that rise, the first entry, and that few messages are open.
 -- Assumes nothing.
 use mathlib.Core.Path.{_≡_, refl, sym, ap, _∙_}
 use mathlib.Core.Bool.{Bool, true, false, _&&_}
@@ -19,20 +19,10 @@ use Rattle.session.specs.Session.{Wait, Entry, waiting, complete, tokenOf, risi
 use Rattle.session.specs.Codec.{number, pair, via, slot, left, right, either, getMany}
 use Rattle.session.specs.Area.{wait, event, entry, entryOf}
 use Rattle.session.proofs.Area.{entry-width}
-use Rattle.sessioncheck.proofs.Entries.{stop-by, next-by, many-got}
+use Rattle.entryread.proofs.Walk.{many-got, read-as}
+use Rattle.sessioncheck.proofs.Entries.{stop-by, next-by}
 
--- ---- an entry that is read, told apart by its mark
-
-read-as :
-    {A : Type 0} (f : Entry → A) (l : List ℕ) →
-    f (entry .get l) ≡ pick (eqb (getD l 2 0) 0) (f (waiting (num 2 0 l) (wait .get (drop 3 l)))) (f (complete (num 2 0 l) (event .get (drop 3 l))))
-unfolding entry via pair number either slot
-read-as {A} f l =
-    rw (getD-drop 2 l 0 0, drop-drop 1 2 l) (go (eqb (getD l 2 0) 0) (num 2 0 l) (wait .get (drop 3 l)) (event .get (drop 3 l)))
-  where
-    go : (b : Bool) (t : ℕ) (w : Wait) (e : Event) → f (entryOf t (pick b (left w) (right e))) ≡ pick b (f (waiting t w)) (f (complete t e))
-    go true t w e = refl
-    go false t w e = refl
+-- ---- an entry that is read
 
 token : (l : List ℕ) → tokenOf (entry .get l) ≡ num 2 0 l
 token l = read-as tokenOf l ∙ either-way (eqb (getD l 2 0) 0)
@@ -40,10 +30,6 @@ token l = read-as tokenOf l ∙ either-way (eqb (getD l 2 0) 0)
     either-way : (b : Bool) → pick b (num 2 0 l) (num 2 0 l) ≡ num 2 0 l
     either-way true = refl
     either-way false = refl
-
-opens : (l : List ℕ) (r : List Entry) → openCount (entry .get l ∷ r) ≡ pick (eqb (getD l 2 0) 0) (suc (openCount r)) (openCount r)
-unfolding openCount
-opens l r = read-as (λ x. openCount (x ∷ r)) l
 
 leads : (h : ℕ) (l : List ℕ) (r : List Entry) → firstOpen h (entry .get l ∷ r) ≡ eqb (getD l 2 0) 0
 unfolding firstOpen
@@ -86,31 +72,6 @@ module _ (h : ℕ) (x : List ℕ) (n i lo : ℕ) (inv : Rises h x n i lo) where
   pub rises-end : n ≤ i → true ≡ rising 0 h (getMany entry n x)
   unfolding rising getMany
   rises-end k = let z : n - i ≡ 0 = omega arith in sym (inv ∙ rw z)
-
--- ---- a loop that has come to entry i and counted k open ones
-
-abbrev pub Opens : List ℕ → ℕ → ℕ → ℕ → Type 0
-Opens x n i k = (k ≤ i) × (openCount (getMany entry n x) ≡ k + openCount (getMany entry (n - i) (drop (199 * i) x)))
-
-pub opens-start : (x : List ℕ) (n : ℕ) → Opens x n 0 0
-opens-start x n = (omega arith, rw (sub-zero, zero-add))
-
-module _ (x : List ℕ) (n i k : ℕ) (inv : Opens x n i k) where
-  module _ (h : i < n) where
-    one : openCount (getMany entry (n - i) (drop (199 * i) x)) ≡ pick (eqb (getD x (199 * i + 2) 0) 0) (suc (openCount (getMany entry (n - (i + 1)) (drop (199 * (i + 1)) x)))) (openCount (getMany entry (n - (i + 1)) (drop (199 * (i + 1)) x)))
-    one = rw (many-got entry 199 entry-width n i x h, opens (drop (199 * i) x), getD-drop (199 * i) x 2 0)
-
-    pub opens-more : {j : ℕ} → getD x (199 * i + 2) 0 ≡ 0 → j ≡ k + 1 → Opens x n (i + 1) j
-    opens-more e f =
-        let o = rw (eq-eqb (getD x (199 * i + 2) 0) 0 e) at one in let c = inv .1 in (omega arith, omega arith)
-
-    pub opens-same : {j : ℕ} → (getD x (199 * i + 2) 0 ≡ 0 → ⊥) → j ≡ k → Opens x n (i + 1) j
-    opens-same e f =
-        let o = rw (ne-eqb (getD x (199 * i + 2) 0) 0 e) at one in let c = inv .1 in (omega arith, omega arith)
-
-  pub opens-end : n ≤ i → k ≡ openCount (getMany entry n x)
-  unfolding openCount getMany
-  opens-end h = let z : n - i ≡ 0 = omega arith in sym (inv .1 ∙ rw (z, add-zero))
 
 -- ---- the first entry
 

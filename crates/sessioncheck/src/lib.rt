@@ -232,22 +232,6 @@ fn rising_ok(s: &[u8], n: usize, handed: u16) -> bool
     true
 }
 
-// How many messages are open.
-fn open_count(s: &[u8], n: usize) -> usize
-    requires { ⌜ (n ≤ ENTRIES-MOST) × (n * 199 ≤ length (now s)) ⌝ }
-    ensures { λ r. ⌜ r ≡ openCount (getMany entry n (now (s .entry))) ⌝ }
-{
-    let mut i: usize = 0;
-    let mut open: usize = 0;
-    while i < n {
-        if s[199 * i + 2] == 0 {
-            open += 1;
-        }
-        i += 1;
-    }
-    open
-}
-
 // Whether the first entry is unresolved; without an entry no token is handed out.
 fn first_open(s: &[u8], n: usize, handed: u16) -> bool
     requires { ⌜ (n ≤ ENTRIES-MOST) × (n * 199 ≤ length (now s)) ⌝ }
@@ -269,7 +253,7 @@ fn order_ok(s: &[u8], n: usize, handed: u16) -> bool
     if !first_open(s, n, handed) {
         return false;
     }
-    open_count(s, n) < 9
+    entryread::open_count(s, n) < 9
 }
 
 // ---- the area

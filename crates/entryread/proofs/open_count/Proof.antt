@@ -1,9 +1,11 @@
+-- `entryread::open_count` meets its contract.
+-- Assumes nothing.
 use mathlib.Core.Logic.{⊎-elim}
 use Prim.Native.Nat.{_-_}
 use native.Mathlib.Omega.{arith}
-use Rattle.sessioncheck.proofs.Order.{Opens, opens-start, opens-more, opens-same, opens-end}
-use Rattle.sessioncheck.proofs.open_count.Statement.{statement}
-use Rattle.sessioncheck.proofs.open_count.Tie as tie
+use Rattle.entryread.proofs.Walk.{Opens, opens-start, opens-more, opens-same, opens-end}
+use Rattle.entryread.proofs.open_count.Statement.{statement}
+use Rattle.entryread.proofs.open_count.Tie as tie
 
 abbrev Inv-loop : tie.InvT-loop
 Inv-loop s n i₀ open₀ i «open» = Opens s n i «open»
