@@ -1,0 +1,94 @@
+-- `pending::find` meets its contract.
+-- Assumes nothing.
+use mathlib.Core.Path.{refl}
+use Prim.Native.Nat.{_+_, _-_, _*_, _≤_, _<_}
+use native.Mathlib.Omega.{arith}
+use lib.ListN.{length, length-drop}
+use borrow.Author.Needs.{needs}
+use Rattle.area.proofs.Splice.{part-rest}
+use Rattle.session.specs.Area.{decode}
+use Rattle.pending.proofs.Search.{within, Sought, sought-start, sought-at, sought-next, sought-end}
+use Rattle.pending.proofs.find.Statement.{statement}
+use Rattle.pending.proofs.find.Tie as tie
+
+abbrev Inv-loop : tie.InvT-loop
+Inv-loop area token n i₀ i = Sought (token .0) area i
+
+abbrev μ-loop : tie.MeasureT-loop
+μ-loop area token n i₀ i = n - i
+
+-- an entry that the loop comes to is one of the area's, and within it
+one-of : (c : tie.Else1 Inv-loop μ-loop) → c .before .loop .i < length (decode (c .before .before .before .before .before .args .area .now) .entries)
+one-of c = omega (arith, c .before .before .before .header-at .ensures .2)
+
+one-within : (c : tie.Else1 Inv-loop μ-loop) → 109 + 199 * (c .before .loop .i) + 199 ≤ length (c .before .before .before .before .before .args .area .now)
+one-within c = within _ (λ k. omega (arith, c .before .before .before .before .shared-slice-known .given k)) (c .before .before .before .before .before .pre) _ (one-of c)
+
+header-at-requires : tie.Need-header-at-requires Inv-loop μ-loop
+header-at-requires c κs = search needs
+
+cast-n : tie.Need-cast-n Inv-loop μ-loop
+cast-n c = search needs
+
+loop-holds : tie.Need-loop-holds Inv-loop μ-loop
+loop-holds c = sought-start _ _
+
+mul-token-at : tie.Need-mul-token-at Inv-loop μ-loop
+mul-token-at c = omega arith
+
+add-token-at : tie.Need-add-token-at Inv-loop μ-loop
+add-token-at c = omega arith
+
+sub-token-at : tie.Need-sub-token-at Inv-loop μ-loop
+sub-token-at c = omega (arith, one-within c)
+
+part-token-at-start : tie.Need-part-token-at-start Inv-loop μ-loop
+part-token-at-start c = omega (arith, one-within c)
+
+part-token-at-end : tie.Need-part-token-at-end Inv-loop μ-loop
+part-token-at-end c = omega (arith, one-within c)
+
+token-at-requires : tie.Need-token-at-requires Inv-loop μ-loop
+token-at-requires c κs = rw (part-rest, length-drop) (omega (arith, one-within (c .before)))
+
+add-i : tie.Need-add-i Inv-loop μ-loop
+add-i c = omega arith
+
+loop-less : tie.Need-loop-less Inv-loop μ-loop
+loop-less c = omega arith
+
+loop-again : tie.Need-loop-again Inv-loop μ-loop
+loop-again c =
+    let token = c .before .before .before in
+    let step = token .before .before in
+    sought-next _ _ _ (step .before .loop .inv) (one-of step) (token .token-at .ensures) refl (c .if2 .left)
+
+returns : tie.Need-returns Inv-loop μ-loop
+returns c = sought-end _ _ _ (c .before .loop .inv) (omega (arith, c .before .before .before .header-at .ensures .2))
+
+returns-2 : tie.Need-returns-2 Inv-loop μ-loop
+returns-2 c =
+    let token = c .before .before .before in
+    let step = token .before .before in
+    sought-at _ _ _ (step .before .loop .inv) (one-of step) (token .token-at .ensures) refl (c .if2 .taken)
+
+pub find-spec : {M : Type 1} → statement M
+find-spec =
+    tie.close
+    (tie.spec
+    Inv-loop
+    μ-loop
+    header-at-requires
+    cast-n
+    loop-holds
+    mul-token-at
+    add-token-at
+    sub-token-at
+    part-token-at-start
+    part-token-at-end
+    token-at-requires
+    add-i
+    loop-less
+    loop-again
+    returns
+    returns-2)
