@@ -1,0 +1,2 @@
+mod Events
+mod Queued
