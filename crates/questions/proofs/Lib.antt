@@ -1,0 +1,3 @@
+mod Ladder
+mod Messages
+mod Sorts
