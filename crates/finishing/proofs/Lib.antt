@@ -1,0 +1,3 @@
+pub mod Found
+mod Finished
+mod Ways

@@ -1,0 +1,4 @@
+mod Opened
+mod Passed
+mod Result
+mod Sorted

@@ -1,0 +1,43 @@
+-- `opening::open_press` meets its contract.
+-- Assumes nothing.
+use Rattle.opening.proofs.Opened.{opened}
+use mathlib.Core.Path.{_∙_, ap}
+use borrow.Author.Needs.{needs}
+use Rattle.opening.proofs.open_press.Statement.{statement}
+use Rattle.opening.proofs.open_press.Tie as tie
+
+virtual-key-requires : tie.Need-virtual-key-requires
+virtual-key-requires c κs = search needs
+
+destructure-key-lparam-requires : tie.Need-destructure-key-lparam-requires
+destructure-key-lparam-requires c κs = search needs
+
+add-press-requires : tie.Need-add-press-requires
+add-press-requires c κs = search needs
+
+no-events-requires : tie.Need-no-events-requires
+no-events-requires c κs = search needs
+
+same-length : tie.Need-same-length
+same-length c = search needs
+
+same-length-2 : tie.Need-same-length-2
+same-length-2 c = search needs
+
+returns : tie.Need-returns
+returns c =
+    let put = c .before .before .before .before .before .before in
+    let a = c .before .before .before .before .before .before .before .before .before .before .before .before .args in
+    rw (c .before .before .before .before .before .before .before .before .destructure-key-lparam .ensures, c .before .before .before .before .before .before .before .before .before .virtual-key .ensures) at (opened _ _ _ (put .add-press .ensures .0) (put .add-press .ensures .1) (c .before .before .no-events .ensures))
+
+pub open-press-spec : {M : Type 1} → statement M
+open-press-spec =
+    tie.close
+    (tie.spec
+    virtual-key-requires
+    destructure-key-lparam-requires
+    add-press-requires
+    no-events-requires
+    same-length
+    same-length-2
+    returns)

@@ -1,0 +1,49 @@
+-- `opening::open_release` meets its contract.
+-- Assumes nothing.
+use Rattle.opening.proofs.Opened.{opened, release-fits}
+use mathlib.Core.Path.{refl}
+use native.Mathlib.Omega.{arith}
+use borrow.Author.Needs.{needs}
+use Rattle.opening.proofs.open_release.Statement.{statement}
+use Rattle.opening.proofs.open_release.Tie as tie
+
+virtual-key-requires : tie.Need-virtual-key-requires
+virtual-key-requires c κs = search needs
+
+destructure-key-lparam-requires : tie.Need-destructure-key-lparam-requires
+destructure-key-lparam-requires c κs = search needs
+
+from-message-requires : tie.Need-from-message-requires
+from-message-requires c κs = search needs
+
+add-release-requires : tie.Need-add-release-requires
+add-release-requires c κs =
+    let s = c .before .before .before .before .before .before .before .before in
+    (s .pre .0, c .before .from-message .ensures .1, release-fits (s .args .block .now) _ (λ i. omega (arith, c .before .before .before .before .before .shared-slice-known .given i)) (s .pre .2) (s .args .lparam) _ _ (c .before .from-message .ensures .0) (c .before .before .destructure-key-lparam .ensures))
+
+no-events-requires : tie.Need-no-events-requires
+no-events-requires c κs = search needs
+
+same-length : tie.Need-same-length
+same-length c = search needs
+
+same-length-2 : tie.Need-same-length-2
+same-length-2 c = search needs
+
+returns : tie.Need-returns
+returns c =
+    let put = c .before .before .before .before .before .before in
+    rw (c .before .before .before .before .before .before .before .before .from-message .ensures .0, c .before .before .before .before .before .before .before .before .before .destructure-key-lparam .ensures, c .before .before .before .before .before .before .before .before .before .before .virtual-key .ensures) at (opened _ _ _ (put .add-release .ensures .0) (put .add-release .ensures .1) (c .before .before .no-events .ensures))
+
+pub open-release-spec : {M : Type 1} → statement M
+open-release-spec =
+    tie.close
+    (tie.spec
+    virtual-key-requires
+    destructure-key-lparam-requires
+    from-message-requires
+    add-release-requires
+    no-events-requires
+    same-length
+    same-length-2
+    returns)
