@@ -1,0 +1,93 @@
+-- `message::finish` meets its contract.
+-- Assumes nothing.
+use borrow.Author.Needs.{needs}
+use Rattle.message.proofs.Asked.{asked-area, asked-answers, asked-block, finish-early, finish-late, finish-passed}
+use Rattle.message.proofs.finish.Statement.{statement}
+use Rattle.message.proofs.finish.Tie as tie
+
+ask-areas-requires : tie.Need-ask-areas-requires
+ask-areas-requires c κs = search needs
+
+enum-known-early : tie.Need-enum-known-early
+enum-known-early c = search needs
+
+same-length : tie.Need-same-length
+same-length c = search needs
+
+same-length-2 : tie.Need-same-length-2
+same-length-2 c = search needs
+
+returns : tie.Need-returns
+returns c =
+    λ result. finish-early _ _ _ _ result _ _ (c .before .before .before .ask-areas .ensures) _ (c .before .early .given .1)
+
+enum-told : tie.Need-enum-told
+enum-told c = search needs
+
+ask-finish-requires : tie.Need-ask-finish-requires
+ask-finish-requires c κs =
+    asked-area _ _ _ _ (c .before .before .before .ask-areas .ensures) (c .before .enum-told .given .1)
+
+enum-known-late : tie.Need-enum-known-late
+enum-known-late c = search needs
+
+same-length-3 : tie.Need-same-length-3
+same-length-3 c = search needs
+
+same-length-4 : tie.Need-same-length-4
+same-length-4 c = search needs
+
+returns-2 : tie.Need-returns-2
+returns-2 c =
+    let late = c .before .before .before in
+    let told = late .before .before in
+    let early = told .before .before in
+    λ result.
+    finish-late _ _ _ _ result _ _ (early .ask-areas .ensures) (told .enum-told .given .1) (late .ask-finish .ensures) _ (c .before .late .given .1)
+
+enum-told-2 : tie.Need-enum-told-2
+enum-told-2 c = search needs
+
+finish-open-requires : tie.Need-finish-open-requires
+finish-open-requires c κs =
+    let e = c .before .before .before .before .before .before .before .before .ask-areas .ensures in
+    let p = c .before .before .before .before .before .before .enum-told .given .1 in
+    (asked-area _ _ _ _ e p, asked-answers _ _ _ _ e p, asked-block _ _ _ _ e p)
+
+same-length-5 : tie.Need-same-length-5
+same-length-5 c = search needs
+
+same-length-6 : tie.Need-same-length-6
+same-length-6 c = search needs
+
+returns-3 : tie.Need-returns-3
+returns-3 c =
+    let done = c .before .before .before .before in
+    let passed = done .before .before .before in
+    let late = passed .before .before in
+    let told = late .before .before in
+    let early = told .before .before in
+    λ result.
+    finish-passed _ _ _ _ result _ _ (early .ask-areas .ensures) (told .enum-told .given .1) (late .ask-finish .ensures) (passed .enum-told2 .given .1)
+    (done .finish-open .ensures)
+
+pub finish-spec : {M : Type 1} → statement M
+finish-spec =
+    tie.close
+    (tie.spec
+    ask-areas-requires
+    enum-known-early
+    same-length
+    same-length-2
+    returns
+    enum-told
+    ask-finish-requires
+    enum-known-late
+    same-length-3
+    same-length-4
+    returns-2
+    enum-told-2
+    finish-open-requires
+    same-length-5
+    same-length-6
+    returns-3)

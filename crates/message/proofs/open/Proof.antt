@@ -1,0 +1,117 @@
+-- `message::open` meets its contract.
+-- Assumes nothing.
+use mathlib.Core.Path.{sym}
+use native.Mathlib.Omega.{arith}
+use borrow.Author.Needs.{needs}
+use Rattle.message.proofs.Asked.{asked-area, asked-answers, asked-block, asked-passes, open-early, open-late, open-passed}
+use Rattle.message.proofs.open.Statement.{statement}
+use Rattle.message.proofs.open.Tie as tie
+
+ask-areas-requires : tie.Need-ask-areas-requires
+ask-areas-requires c κs = search needs
+
+enum-known-early : tie.Need-enum-known-early
+enum-known-early c = search needs
+
+same-length : tie.Need-same-length
+same-length c = search needs
+
+same-length-2 : tie.Need-same-length-2
+same-length-2 c = search needs
+
+returns : tie.Need-returns
+returns c =
+    open-early _ _ _ _ _ _ (c .before .before .before .ask-areas .ensures) _ (c .before .early .given .1)
+
+enum-told : tie.Need-enum-told
+enum-told c = search needs
+
+sort-of-requires : tie.Need-sort-of-requires
+sort-of-requires c κs = search needs
+
+ask-message-requires : tie.Need-ask-message-requires
+ask-message-requires c κs =
+    let e = c .before .before .before .before .ask-areas .ensures in
+    let p = c .before .before .enum-told .given .1 in
+    (asked-area _ _ _ _ e p, asked-block _ _ _ _ e p)
+
+enum-known-late : tie.Need-enum-known-late
+enum-known-late c = search needs
+
+same-length-3 : tie.Need-same-length-3
+same-length-3 c = search needs
+
+same-length-4 : tie.Need-same-length-4
+same-length-4 c = search needs
+
+returns-2 : tie.Need-returns-2
+returns-2 c =
+    let late = c .before .before .before in
+    let sort = late .before .before in
+    let told = sort .before in
+    let early = told .before .before in
+    open-late _ _ _ _ _ _ (early .ask-areas .ensures) (told .enum-told .given .1) _ (sort .sort-of .ensures) (late .ask-message .ensures _ _) _
+    (c .before .late .given .1)
+
+enum-told-2 : tie.Need-enum-told-2
+enum-told-2 c = search needs
+
+header-at-requires : tie.Need-header-at-requires
+header-at-requires c κs =
+    let told = c .before .before .before .before .before .before in
+    let a = asked-area _ _ _ _ (told .before .before .ask-areas .ensures) (told .enum-told .given .1) in omega (arith, a .size)
+
+result-after-requires : tie.Need-result-after-requires
+result-after-requires c κs = search needs
+
+open-by-requires : tie.Need-open-by-requires
+open-by-requires c κs =
+    let late = c .before .before .before .before .before .before .before in
+    let told = late .before .before .before in
+    let e = told .before .before .ask-areas .ensures in
+    let p = told .enum-told .given .1 in
+    let passed = c .before .before .before .before .before .enum-told2 .given .1 in
+    (asked-area _ _ _ _ e p, asked-answers _ _ _ _ e p, asked-block _ _ _ _ e p, asked-passes _ _ _ _ (late .ask-message .ensures 0 _) passed)
+
+same-length-5 : tie.Need-same-length-5
+same-length-5 c = search needs
+
+same-length-6 : tie.Need-same-length-6
+same-length-6 c = search needs
+
+returns-3 : tie.Need-returns-3
+returns-3 c =
+    let done = c .before .before .before .before in
+    let result = done .before .before .before in
+    let head = result .before in
+    let passed = head .before .before in
+    let late = passed .before .before in
+    let sort = late .before .before in
+    let told = sort .before in
+    let early = told .before .before in
+    open-passed _ _ _ _ _ _ (early .ask-areas .ensures) (told .enum-told .given .1) _ (sort .sort-of .ensures) (late .ask-message .ensures _ _)
+    (passed .enum-told2 .given .1) (result .result-after .ensures _ _ _ (sym (head .header-at .ensures .1))) (done .open-by .ensures _)
+
+pub open-spec : {M : Type 1} → statement M
+open-spec =
+    tie.close
+    (tie.spec
+    ask-areas-requires
+    enum-known-early
+    same-length
+    same-length-2
+    returns
+    enum-told
+    sort-of-requires
+    ask-message-requires
+    enum-known-late
+    same-length-3
+    same-length-4
+    returns-2
+    enum-told-2
+    header-at-requires
+    result-after-requires
+    open-by-requires
+    same-length-5
+    same-length-6
+    returns-3)

@@ -1,0 +1,166 @@
+// tao's KeyEventBuilder::process_message, cut at its peek: open takes a message, finish what was peeked.
+ghost use mathlib.Core.Path.{_≡_};
+ghost use mathlib.Core.Bool.{true};
+ghost use mathlib.Core.List.{List};
+ghost use Prim.Native.Nat.{ℕ};
+ghost use lib.ListN.{length};
+ghost use Rattle.block.specs.Block.{blockOk};
+ghost use Rattle.session.specs.Limits.{AREA};
+ghost use Rattle.session.specs.Area.{decode};
+ghost use Rattle.session.specs.Calls.{findWait, finishEffect};
+ghost use Rattle.session.specs.Answers.{openOf, finishOf, openSaid, finishSaid};
+ghost use Rattle.session.specs.declared.ProcResult.{ProcResult};
+ghost use Rattle.focus.specs.Written.{keyboardAt};
+ghost use Rattle.queue.specs.Room.{IsArea};
+ghost use Rattle.finishing.specs.Peeked.{asPeeked};
+ghost use Rattle.finishing.specs.Resolves.{Does};
+ghost use Rattle.message.specs.Calls.{inputs, message, left};
+use entryread::Pending;
+use finishing::Peeked;
+use questions::Asked;
+use session::FinishAnswer;
+use session::OpenAnswer;
+use session::PendingMessageToken;
+use session::ProcResult;
+
+// What an open answers, and the message result after it.
+pub struct Opened {
+    pub answer: OpenAnswer,
+    pub result: ProcResult,
+}
+
+// The message result, lent and set by an open.
+pub struct MessageResult {
+    pub value: ProcResult,
+}
+
+// Takes a message. `result` is the message result as it was.
+pub fn open(
+    session: &mut [u8],
+    answers: &mut [u8],
+    state: &[u8],
+    block: &[u8],
+    kind: u32,
+    wparam: u64,
+    lparam: u64,
+    result: ProcResult,
+) -> Opened
+    ensures { λ r. ⌜ left (openSaid (r .answer)) (r .result) (now (session .exit)) (now (answers .exit)) ≡ openOf (now (session .entry)) (now (answers .entry)) result (inputs (now (state .entry)) (now (block .entry))) (message kind wparam lparam) ⌝ }
+{
+    let early = questions::ask_areas(session, answers, state, block);
+    if let Asked::Failed(no) = early {
+        return Opened {
+            answer: OpenAnswer::Refused(no),
+            result, // 1 to 4
+        };
+    }
+    let sort = questions::sort_of(kind, wparam, lparam);
+    let late = questions::ask_message(session, block, state, sort, wparam);
+    if let Asked::Failed(no) = late {
+        return Opened {
+            answer: OpenAnswer::Refused(no),
+            result, // 5 to 9
+        };
+    }
+    let h = entryread::header_at(session);
+    let after = opening::result_after(sort, h.held, kind, result);
+    let answer = opening::open_by(session, answers, block, state, sort, wparam, lparam);
+    Opened {
+        answer,
+        result: after,
+    }
+}
+
+// Takes a message and sets the message result that it is lent.
+pub fn process_message(
+    session: &mut [u8],
+    answers: &mut [u8],
+    state: &[u8],
+    block: &[u8],
+    kind: u32,
+    wparam: u64,
+    lparam: u64,
+    result: &mut MessageResult,
+) -> OpenAnswer
+    ensures { λ r. ⌜ left (openSaid r) (now (result .exit) .value) (now (session .exit)) (now (answers .exit)) ≡ openOf (now (session .entry)) (now (answers .entry)) (now (result .entry) .value) (inputs (now (state .entry)) (now (block .entry))) (message kind wparam lparam) ⌝ }
+{
+    let old = result.value;
+    let a = open(session, answers, state, block, kind, wparam, lparam, old);
+    result.value = a.result;
+    a.answer
+}
+
+// Resolves the message of a token, by what it is and by what was peeked.
+fn finish_open(
+    session: &mut [u8],
+    answers: &mut [u8],
+    state: &[u8],
+    block: &[u8],
+    token: PendingMessageToken,
+    peeked: Peeked,
+)
+    requires { ⌜ IsArea (now session) × (length (now answers) ≡ AREA) × (blockOk (now block) ≡ true) ⌝ }
+    ensures { λ _. ⌜ Does (finishEffect (decode (now (session .entry))) (keyboardAt (now (block .entry)) (now (state .entry))) (token .0) (asPeeked peeked) (findWait (token .0) (decode (now (session .entry)) .entries))) (now (session .exit)) (now (answers .exit)) ⌝ }
+{
+    let h = entryread::header_at(session);
+    let place = pending::find(session, token);
+    if h.count as usize <= place {
+        answers::no_events(answers);
+        return;
+    }
+    let at = 109 + 199 * place;
+    let what = entryread::pending_at(&session[at..]);
+    match what {
+        Pending::Press => finishing::finish_press(
+            session,
+            answers,
+            block,
+            state,
+            token,
+            place,
+            peeked,
+        ),
+        Pending::Release => finishing::finish_release(
+            session,
+            answers,
+            block,
+            state,
+            token,
+            place,
+            peeked,
+        ),
+        Pending::Character => finishing::finish_character(
+            session,
+            answers,
+            block,
+            state,
+            token,
+            place,
+            peeked,
+        ),
+        Pending::Complete => answers::no_events(answers),
+    }
+}
+
+// Finishes the latest open message with what was peeked.
+pub fn finish(
+    session: &mut [u8],
+    answers: &mut [u8],
+    state: &[u8],
+    block: &[u8],
+    token: PendingMessageToken,
+    peeked: Peeked,
+) -> FinishAnswer
+    ensures { λ r. ⌜ ((result : ProcResult) → left (finishSaid r) result (now (session .exit)) (now (answers .exit)) ≡ finishOf (now (session .entry)) (now (answers .entry)) result (inputs (now (state .entry)) (now (block .entry))) (token .0) (asPeeked peeked)) ⌝ }
+{
+    let early = questions::ask_areas(session, answers, state, block);
+    if let Asked::Failed(no) = early {
+        return FinishAnswer::Refused(no);
+    }
+    let late = questions::ask_finish(session, token);
+    if let Asked::Failed(no) = late {
+        return FinishAnswer::Refused(no);
+    }
+    finish_open(session, answers, state, block, token, peeked);
+    FinishAnswer::Finished
+}
