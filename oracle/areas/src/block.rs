@@ -53,7 +53,7 @@ pub enum EntryFault {
 
 // ---- numbers
 
-fn native_number(n: Native) -> (u8, u32) {
+pub(crate) fn native_number(n: Native) -> (u8, u32) {
   match n {
     Native::Unidentified => (0, 0),
     Native::Windows(v) => (1, v.into()),
@@ -100,7 +100,7 @@ fn is_named(place: u16) -> bool {
 }
 
 /// Number, second field, third field, text.
-fn key_fields(key: &Key) -> (u16, u8, u32, &str) {
+pub(crate) fn key_fields(key: &Key) -> (u16, u8, u32, &str) {
   match key {
     Key::Character(text) => (0, 0, 0, text),
     Key::Unidentified(n) => {

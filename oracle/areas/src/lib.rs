@@ -1,2 +1,3 @@
 //! docs/AREAS.md in Rust, written from that page alone.
 pub mod block;
+pub mod event;

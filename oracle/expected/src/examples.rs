@@ -4,8 +4,8 @@ use std::collections::BTreeSet;
 use tao_oracle::run_script;
 
 mod antt;
-mod boards;
-mod scripts;
+pub mod boards;
+pub mod scripts;
 
 use boards::Boards;
 use scripts::{Example, Start, Step};

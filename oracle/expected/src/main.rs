@@ -1,12 +1,16 @@
 //! Writes the data files and the expected outputs of the programs under crates/ and the worked examples of
 //! crates/examples, or compares them.
 //! tao gives every answer but those on texts, which Rust's standard library gives.
+use examples::boards;
+use kbtypes::LayoutSpec;
 use std::{env, fs, path::Path, process::ExitCode};
 
 mod examples;
 mod keyboard;
 mod locations;
+mod replay;
 mod scancodes;
+mod station;
 mod texts;
 
 /// Path from the repository's folder, and contents.
@@ -15,6 +19,8 @@ type File = (&'static str, Vec<u8>);
 fn files() -> Vec<File> {
   let us = keyboard::us();
   let pages = locations::pages();
+  let replay = replay::output(&us);
+  let (shift, events) = station::input_and_output(&us);
   vec![
     ("crates/scancodes/stdout", scancodes::output().into()),
     ("crates/locations/data/locations.block", keyboard::block(&pages)),
@@ -23,7 +29,23 @@ fn files() -> Vec<File> {
     ("crates/keyboard/stdout", keyboard::output(&us).into()),
     ("crates/texts/stdout", texts::output().into()),
     ("crates/examples/specs/Expected.antt", examples::output().into()),
+    ("crates/station/data/us.block", keyboard::block(&us)),
+    ("crates/station/data/accent.block", keyboard::block(&station::accent())),
+    ("crates/station/data/names", station::names().into()),
+    ("crates/station/stdin", shift.into()),
+    ("crates/station/stdout", events.into()),
+    ("crates/limits/data/one-key.block", keyboard::block(&limits())),
+    ("crates/replay/data/calls", replay.calls),
+    ("crates/replay/stdout", replay.stdout.into()),
   ]
+}
+
+/// One key: the virtual key 31 with the scan code 02, whose character is 1.
+fn limits() -> LayoutSpec {
+  let mut maps = LayoutSpec::empty(2);
+  boards::key(&mut maps, 0x31, 0x02, None);
+  maps.keys[0].insert(boards::code("Digit1"), boards::text("1"));
+  maps
 }
 
 fn write(root: &Path, (path, bytes): &File) -> bool {

@@ -23,18 +23,18 @@ impl Board {
 fn place(names: &[&str], name: &str) -> u16 {
   names.iter().position(|n| *n == name).unwrap_or_else(|| panic!("{name}")) as u16
 }
-fn named(name: &str) -> Key {
+pub fn named(name: &str) -> Key {
   Key::Named(place(KEY_NAMES, name))
 }
-fn code(name: &str) -> Code {
+pub fn code(name: &str) -> Code {
   Code::Named(place(CODE_NAMES, name))
 }
-fn text(t: &str) -> Key {
+pub fn text(t: &str) -> Key {
   Key::Character(t.into())
 }
 
 /// The virtual key of a scan code, and its non-character key.
-fn key(maps: &mut LayoutSpec, vk: u8, scan: u16, non_char: Option<&str>) {
+pub fn key(maps: &mut LayoutSpec, vk: u8, scan: u16, non_char: Option<&str>) {
   maps.scan_of_vk[usize::from(vk)] = scan;
   let page = match scan >> 8 {
     0 => 0,

@@ -34,65 +34,65 @@ pub struct Example {
   pub steps: Vec<Step>,
 }
 
-fn step(board: &Board, body: Body) -> Step {
+pub fn step(board: &Board, body: Body) -> Step {
   Step { board: board.clone(), body, refused: None }
 }
 
 /// A call that brings a message.
-fn bring(board: &Board, kind: u32, wparam: u64, lparam: u64) -> Step {
+pub fn bring(board: &Board, kind: u32, wparam: u64, lparam: u64) -> Step {
   step(board, Body::Open { kind, wparam, lparam })
 }
 
 /// The lParam of a press of this scan code; one on another page than 00 is extended.
-fn lparam(scan: u64) -> u64 {
+pub fn lparam(scan: u64) -> u64 {
   (scan & 0xFF) << 16 | u64::from(scan > 0xFF) << 24 | 1
 }
 
-fn press(board: &Board, vk: u64, scan: u64) -> Step {
+pub fn press(board: &Board, vk: u64, scan: u64) -> Step {
   bring(board, 0x100, vk, lparam(scan))
 }
 
-fn release(board: &Board, vk: u64, scan: u64) -> Step {
+pub fn release(board: &Board, vk: u64, scan: u64) -> Step {
   bring(board, 0x101, vk, 0xC000_0000 | lparam(scan))
 }
 
-fn character(board: &Board, code: u64) -> Step {
+pub fn character(board: &Board, code: u64) -> Step {
   bring(board, 0x102, code, lparam(0x02))
 }
 
-fn dead_character(board: &Board, code: u64) -> Step {
+pub fn dead_character(board: &Board, code: u64) -> Step {
   bring(board, 0x103, code, lparam(0x0D))
 }
 
-fn gain(board: &Board) -> Step {
+pub fn gain(board: &Board) -> Step {
   bring(board, 0x7, 0, 0)
 }
 
-fn loss(board: &Board) -> Step {
+pub fn loss(board: &Board) -> Step {
   bring(board, 0x8, 0, 0)
 }
 
 /// A finish with nothing peeked.
-fn alone(board: &Board, token: u32) -> Step {
+pub fn alone(board: &Board, token: u32) -> Step {
   step(board, Body::Finish { token, peeked: None })
 }
 
 /// A finish with a message peeked.
-fn seeing(board: &Board, token: u32, kind: u32, wparam: u64, lparam: u64) -> Step {
+pub fn seeing(board: &Board, token: u32, kind: u32, wparam: u64, lparam: u64) -> Step {
   step(board, Body::Finish { token, peeked: Some(Peeked { kind, wparam, lparam }) })
 }
 
 /// A finish with a character message peeked.
-fn more(board: &Board, token: u32) -> Step {
+pub fn more(board: &Board, token: u32) -> Step {
   seeing(board, token, 0x102, 0x31, lparam(0x02))
 }
 
 /// A finish with a message of the key AltGr peeked.
-fn before_alt_gr(board: &Board, token: u32, kind: u32) -> Step {
+pub fn before_alt_gr(board: &Board, token: u32, kind: u32) -> Step {
   seeing(board, token, kind, 0x12, lparam(0xE038))
 }
 
-fn refused(number: u8, step: Step) -> Step {
+pub fn refused(number: u8, step: Step) -> Step {
   Step { refused: Some(number), ..step }
 }
 
@@ -101,7 +101,7 @@ fn example(name: &'static str, shows: &'static str, steps: Vec<Step>) -> Example
 }
 
 /// A press of 31 that is held, then steps.
-fn held(board: &Board, steps: Vec<Step>) -> Vec<Step> {
+pub fn held(board: &Board, steps: Vec<Step>) -> Vec<Step> {
   [press(board, 0x31, 0x02), more(board, 0)].into_iter().chain(steps).collect()
 }
 
