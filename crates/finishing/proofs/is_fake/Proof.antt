@@ -26,8 +26,8 @@ returns c = λ state. none-fake _ _ _ (peeked-none _ (c .enum-told .given .1))
 returns-2 : tie.Need-returns-2
 returns-2 c =
     λ state.
-        let a = c .before .before .before .before .before .args in
-        c .is-current-fake .ensures state ∙ ap (λ (p : Option Message). fake (keyboardAt (a .block .now) state) (asInfo (a .info)) p) (sym (peeked-some _ _ _ _ (c .before .before .peeked .given .1)))
+    let a = c .before .before .before .before .before .args in
+    c .is-current-fake .ensures state ∙ ap (λ (p : Option Message). fake (keyboardAt (a .block .now) state) (asInfo (a .info)) p) (sym (peeked-some _ _ _ _ (c .before .before .peeked .given .1)))
 
 pub is-fake-spec : {M : Type 1} → statement M
 is-fake-spec =
