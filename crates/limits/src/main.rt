@@ -1,6 +1,28 @@
-// Document 01's values of the limits and of the refusals, executed: what just passes, what is refused, and that a refused call keeps
-// both areas and the message result. The layout has one key, 31 with the scan code 02, whose character is 1.
+// Document 01's values of the limits and of the refusals, executed: what just passes, what is refused, and that a refused call keeps both
+// areas and the message result. It reads its steps from standard input; a step that has a name is printed with what it gave. The layout has
+// one key, 31 with the scan code 02, whose character is 1.
+//
+//   new                        a fresh session
+//   keys VK ..                 the keys that are down; all others are up
+//   mark AT                    a byte of the session area set to 1
+//   short N                    the calls that follow get a session area (1), an answer area (2), a key state (3) or a block (4) that lacks
+//                              its last byte; 0: none
+//   message K W L: NAME        a message: kind, wParam, lParam
+//   finish T: NAME             the message of the token T finished with nothing peeked
+//   opens N K W L: NAME        N such messages opened: how many passed
+//   wholes N P K W L: NAME     N such messages opened and finished, with a message of the kind P peeked, or with none where P is 0
+//   events: NAME               how many events the last call handed out
+//
+// Numbers are hexadecimal; what is printed is decimal.
+ghost use Prim.Native.Nat.{_≤_};
 use finishing::Peeked;
+use libc::STDIN_FILENO;
+use lines::Message;
+use lines::behind;
+use lines::find;
+use lines::message_at;
+use lines::number_at;
+use lines::part;
 use session::PendingMessageToken;
 use session::ProcResult;
 use show::Said;
@@ -8,45 +30,12 @@ use show::byte_at;
 use show::decimal;
 use show::text;
 
-struct Message {
-    kind: u32,
-    wparam: u64,
-    lparam: u64,
-}
-
-// A message of the key.
-fn of_kind(kind: u32) -> Message {
-    Message {
-        kind,
-        wparam: 0x31,
-        lparam: 0x20001,
+// A message that was peeked, by its kind.
+fn peeked_of(kind: u64) -> Peeked {
+    if kind == 0 {
+        return Peeked::Nothing;
     }
-}
-
-fn press() -> Message {
-    of_kind(0x100)
-}
-
-fn release() -> Message {
-    Message {
-        kind: 0x101,
-        wparam: 0x31,
-        lparam: 0xc0020001,
-    }
-}
-
-// A character message with that code.
-fn character(code: u64) -> Message {
-    Message {
-        kind: 0x102,
-        wparam: code,
-        lparam: 0x20001,
-    }
-}
-
-// A character message that was peeked.
-fn more() -> Peeked {
-    Peeked::Message(0x102, 0x31, 0x20001)
+    Peeked::Message((kind % 0x1_0000_0000) as u32, 0x31, 0x20001)
 }
 
 // ---- what is kept
@@ -63,12 +52,7 @@ fn is_seven(r: ProcResult) -> bool {
     }
 }
 
-// ---- a line: what is tried, and what was said
-
-fn name(what: &[u8]) {
-    text(what);
-    text(b": ");
-}
+// ---- what was said
 
 fn show_kept(kept: bool) {
     if kept {
@@ -169,6 +153,54 @@ fn show_finish(session: &mut [u8], answers: &mut [u8], state: &[u8], block: &[u8
     show_said(s, kept);
 }
 
+fn show_call(session: &mut [u8], answers: &mut [u8], state: &[u8], block: &[u8], line: &[u8]) {
+    if byte_at(line, 0) == b'm' {
+        show_open(session, answers, state, block, message_at(line, 7));
+        return;
+    }
+    let t = number_at(line, 6);
+    show_finish(
+        session,
+        answers,
+        state,
+        block,
+        (t.value % 0x1_0000_0000) as u32,
+    );
+}
+
+// ---- a call that is given less
+
+// A length, or one less.
+fn cut(len: usize, less: bool) -> usize
+    ensures { λ r. ⌜ r ≤ len ⌝ }
+{
+    if less && 0 < len {
+        return len - 1;
+    }
+    len
+}
+
+fn show_cut(
+    session: &mut [u8],
+    answers: &mut [u8],
+    state: &[u8],
+    block: &[u8],
+    line: &[u8],
+    short: u64,
+) {
+    let of_session = cut(session.len(), short == 1);
+    let of_answers = cut(answers.len(), short == 2);
+    let of_state = cut(state.len(), short == 3);
+    let of_block = cut(block.len(), short == 4);
+    show_call(
+        &mut session[0..of_session],
+        &mut answers[0..of_answers],
+        &state[0..of_state],
+        &block[0..of_block],
+        line,
+    );
+}
+
 // ---- many calls: how many of n passed
 
 fn one_if(passed: bool) -> u64 {
@@ -197,12 +229,13 @@ fn open_many(
     answers: &mut [u8; 65536],
     state: &[u8; 256],
     block: &[u8],
+    m: Message,
     n: u64,
 ) -> u64 {
     let mut passed: u64 = 0;
     let mut i: u64 = 0;
     while i < n {
-        let s = open(session, answers, state, block, release());
+        let s = open(session, answers, state, block, m);
         passed = std::num::wrapping_add_u64(passed, one_if(s.what == 2));
         i += 1;
     }
@@ -228,251 +261,118 @@ fn whole_many(
     passed
 }
 
-// ---- 1 to 3: areas, key state, block
-
-fn short_session(session: &mut [u8], answers: &mut [u8], state: &[u8], block: &[u8]) {
-    if session.len() == 0 {
-        return;
-    }
-    let n = session.len() - 1;
-    name(b"open, session area of 65,535 bytes");
-    show_open(&mut session[0..n], answers, state, block, press());
-    name(b"finish, session area of 65,535 bytes");
-    show_finish(&mut session[0..n], answers, state, block, 0);
-}
-
-fn short_answers(session: &mut [u8], answers: &mut [u8], state: &[u8], block: &[u8]) {
-    if answers.len() == 0 {
-        return;
-    }
-    let n = answers.len() - 1;
-    name(b"open, answer area of 65,535 bytes");
-    show_open(session, &mut answers[0..n], state, block, press());
-    name(b"finish, answer area of 65,535 bytes");
-    show_finish(session, &mut answers[0..n], state, block, 0);
-}
-
-fn short_state(session: &mut [u8], answers: &mut [u8], state: &[u8], block: &[u8]) {
-    if state.len() == 0 {
-        return;
-    }
-    let n = state.len() - 1;
-    name(b"open, 255 key-state bytes");
-    show_open(session, answers, &state[0..n], block, press());
-    name(b"finish, 255 key-state bytes");
-    show_finish(session, answers, &state[0..n], block, 0);
-}
-
-fn short_block(session: &mut [u8], answers: &mut [u8], state: &[u8], block: &[u8]) {
-    if block.len() == 0 {
-        return;
-    }
-    let n = block.len() - 1;
-    name(b"open, block without its last byte");
-    show_open(session, answers, state, &block[0..n], press());
-    name(b"finish, block without its last byte");
-    show_finish(session, answers, state, &block[0..n], 0);
-}
-
-fn inputs(session: &mut [u8; 65536], answers: &mut [u8; 65536], state: &[u8; 256], block: &[u8]) {
-    entrywrite::fresh(session);
-    short_session(session, answers, state, block);
-    short_answers(session, answers, state, block);
-    short_state(session, answers, state, block);
-    short_block(session, answers, state, block);
-}
-
-// ---- 4 and 5: no session, nothing held
-
-fn no_session(
+// A line that makes many calls.
+fn show_many(
     session: &mut [u8; 65536],
     answers: &mut [u8; 65536],
     state: &[u8; 256],
     block: &[u8],
+    line: &[u8],
 ) {
-    entrywrite::fresh(session);
-    session[65535] = 1;
-    name(b"open, a byte set behind the entries");
-    show_open(session, answers, state, block, press());
-    name(b"finish, a byte set behind the entries");
-    show_finish(session, answers, state, block, 0);
-    entrywrite::fresh(session);
-    session[0] = 1;
-    name(b"open, a token handed out and no entry");
-    show_open(session, answers, state, block, press());
-}
-
-fn nothing_held(
-    session: &mut [u8; 65536],
-    answers: &mut [u8; 65536],
-    state: &[u8; 256],
-    block: &[u8],
-) {
-    entrywrite::fresh(session);
-    name(b"103 with no press held");
-    show_open(session, answers, state, block, of_kind(0x103));
-    name(b"107 with no press held");
-    show_open(session, answers, state, block, of_kind(0x107));
-    name(b"102 with no press held");
-    show_open(session, answers, state, block, of_kind(0x102));
-    name(b"a press that is held");
-    show_number(whole(session, answers, state, block, press(), more()));
-    name(b"103 with a press held");
-    show_open(session, answers, state, block, of_kind(0x103));
-}
-
-// ---- 6: eight open
-
-fn ninth(session: &mut [u8; 65536], answers: &mut [u8; 65536], state: &[u8; 256], block: &[u8]) {
-    entrywrite::fresh(session);
-    name(b"a press that is held");
-    show_number(whole(session, answers, state, block, press(), more()));
-    name(b"eight opens");
-    show_number(open_many(session, answers, state, block, 8));
-    name(b"the ninth, a press");
-    show_open(session, answers, state, block, press());
-    name(b"the ninth, a release");
-    show_open(session, answers, state, block, release());
-    name(b"the ninth, a character");
-    show_open(session, answers, state, block, character(0x31));
-}
-
-// What is not asked whether eight are open; the key is down for the focus.
-fn beside_eight(
-    session: &mut [u8; 65536],
-    answers: &mut [u8; 65536],
-    down: &[u8; 256],
-    block: &[u8],
-) {
-    name(b"focus gained with eight open");
-    show_open(session, answers, down, block, of_kind(0x7));
-    name(b"focus lost with eight open");
-    show_open(session, answers, down, block, of_kind(0x8));
-    name(b"103 with eight open and a press held");
-    show_open(session, answers, down, block, of_kind(0x103));
-    name(b"102 with eight open and no press held");
-    show_open(session, answers, down, block, character(0x31));
-    name(b"finish of the eighth");
-    show_finish(session, answers, down, block, 7);
-}
-
-// ---- 7: 256 entries
-
-fn entries(
-    session: &mut [u8; 65536],
-    answers: &mut [u8; 65536],
-    state: &[u8; 256],
-    down: &[u8; 256],
-    block: &[u8],
-) {
-    entrywrite::fresh(session);
-    name(b"an open");
-    show_number(open_many(session, answers, state, block, 1));
-    name(b"releases that wait behind it");
+    if byte_at(line, 0) == b'o' {
+        let n = number_at(line, 5);
+        show_number(open_many(
+            session,
+            answers,
+            state,
+            block,
+            message_at(line, n.next),
+            n.value,
+        ));
+        return;
+    }
+    let n = number_at(line, 6);
+    let p = number_at(line, n.next);
     show_number(whole_many(
         session,
         answers,
         state,
         block,
-        release(),
-        Peeked::Nothing,
-        254,
+        message_at(line, p.next),
+        peeked_of(p.value),
+        n.value,
     ));
-    name(b"256 entries, the last by focus");
-    show_open(session, answers, down, block, of_kind(0x7));
-    name(b"257 entries, the last by focus");
-    show_open(session, answers, down, block, of_kind(0x7));
-    name(b"257 entries, the last by an open");
-    show_open(session, answers, state, block, release());
-    name(b"focus that writes no event");
-    show_open(session, answers, state, block, of_kind(0x7));
-    name(b"finish of the open");
-    show_finish(session, answers, state, block, 0);
-    name(b"events handed out");
-    show_number(show::u16_at(answers, 0) as u64);
 }
 
-// ---- 8: 4,096 tokens. A press that is held takes one and leaves no entry.
+// ---- the steps
 
-fn tokens(
+// A step with a name: what stands behind its colon, and what it gave.
+fn show_step(
     session: &mut [u8; 65536],
     answers: &mut [u8; 65536],
     state: &[u8; 256],
-    down: &[u8; 256],
     block: &[u8],
+    line: &[u8],
+    short: u64,
 ) {
-    entrywrite::fresh(session);
-    name(b"an open");
-    show_number(open_many(session, answers, state, block, 1));
-    name(b"tokens taken behind it");
-    show_number(whole_many(session, answers, state, block, press(), more(), 4094));
-    name(b"the 4,096th token");
-    show_open(session, answers, state, block, release());
-    name(b"the 4,097th token, an open's");
-    show_open(session, answers, state, block, release());
-    name(b"the 4,097th token, a focus event's");
-    show_open(session, answers, down, block, of_kind(0x8));
-    name(b"finish of the latest");
-    show_finish(session, answers, state, block, 4095);
-    name(b"finish of the first");
-    show_finish(session, answers, state, block, 0);
-    name(b"an open on the empty queue");
-    show_open(session, answers, state, block, release());
+    let colon = find(line, 0, b':');
+    text(part(line, behind(line, behind(line, colon)), line.len()));
+    text(b": ");
+    let what = byte_at(line, 0);
+    if what == b'e' {
+        show_number(show::u16_at(answers, 0) as u64);
+        return;
+    }
+    if what == b'm' || what == b'f' {
+        show_cut(session, answers, state, block, line, short);
+        return;
+    }
+    show_many(session, answers, state, block, line);
 }
 
-// ---- 9: sixteen units
-
-fn units(session: &mut [u8; 65536], answers: &mut [u8; 65536], state: &[u8; 256], block: &[u8]) {
-    entrywrite::fresh(session);
-    name(b"a press that is held");
-    show_number(whole(session, answers, state, block, press(), more()));
-    name(b"fifteen units");
-    show_number(whole_many(session, answers, state, block, character(0x31), more(), 15));
-    name(b"two more in one character");
-    show_open(session, answers, state, block, character(0x1f600));
-    name(b"the sixteenth");
-    show_number(whole(session, answers, state, block, character(0x31), more()));
-    name(b"the seventeenth");
-    show_open(session, answers, state, block, character(0x31));
-    name(b"the seventeenth, by 106");
-    show_open(session, answers, state, block, of_kind(0x106));
+// A step without a name.
+fn prepare(session: &mut [u8; 65536], state: &mut [u8; 256], line: &[u8]) {
+    let what = byte_at(line, 0);
+    if what == b'n' {
+        entrywrite::fresh(session);
+    }
+    if what == b'k' {
+        lines::set_keys(line, state);
+    }
+    if what == b'm' && byte_at(line, 1) == b'a' {
+        let at = number_at(line, 4);
+        session[(at.value % 65536) as usize] = 1;
+    }
 }
 
-// ---- 10: the latest token
-
-fn latest(session: &mut [u8; 65536], answers: &mut [u8; 65536], state: &[u8; 256], block: &[u8]) {
-    entrywrite::fresh(session);
-    name(b"finish with nothing open");
-    show_finish(session, answers, state, block, 0);
-    name(b"two opens");
-    show_number(open_many(session, answers, state, block, 2));
-    name(b"finish of the first of two");
-    show_finish(session, answers, state, block, 0);
-    name(b"finish with a token not handed out");
-    show_finish(session, answers, state, block, 2);
-    name(b"finish of the second");
-    show_finish(session, answers, state, block, 1);
-    name(b"finish of the second again");
-    show_finish(session, answers, state, block, 1);
-    name(b"finish of the first");
-    show_finish(session, answers, state, block, 0);
+fn is_named(line: &[u8]) -> bool {
+    find(line, 0, b':') < line.len()
 }
 
-fn show_all(block: &[u8]) {
+// What lacks its last byte from a line on.
+fn short_of(line: &[u8], before: u64) -> u64 {
+    if byte_at(line, 0) == b's' {
+        let n = number_at(line, 5);
+        return n.value;
+    }
+    before
+}
+
+fn show_all(block: &[u8], input: &[u8]) {
     let mut session = io::large_buffer();
     let mut answers = io::large_buffer();
-    let state = [0u8; 256];
-    let mut down = [0u8; 256];
-    down[0x31] = 0x80;
-    inputs(&mut session, &mut answers, &state, block);
-    no_session(&mut session, &mut answers, &state, block);
-    nothing_held(&mut session, &mut answers, &state, block);
-    ninth(&mut session, &mut answers, &state, block);
-    beside_eight(&mut session, &mut answers, &down, block);
-    entries(&mut session, &mut answers, &state, &down, block);
-    tokens(&mut session, &mut answers, &state, &down, block);
-    units(&mut session, &mut answers, &state, block);
-    latest(&mut session, &mut answers, &state, block);
+    let mut state = [0u8; 256];
+    let mut short: u64 = 0;
+    let mut at: usize = 0;
+    let mut turn: usize = 0;
+    while turn < input.len() {
+        let to = find(input, at, b'\n');
+        let line = part(input, at, to);
+        short = short_of(line, short);
+        if is_named(line) {
+            show_step(&mut session, &mut answers, &state, block, line, short);
+        } else {
+            prepare(&mut session, &mut state, line);
+        }
+        at = behind(input, to);
+        turn += 1;
+    }
+}
+
+fn with_block(block: &[u8]) {
+    let mut space = io::large_buffer();
+    let n = io::read_full(STDIN_FILENO, &mut space);
+    show_all(block, &space[..n]);
 }
 
 fn main() {
@@ -484,5 +384,5 @@ fn main() {
     let mut space = io::large_buffer();
     let n = io::read_full(fd, &mut space);
     libc::close(fd);
-    show_all(&space[..n]);
+    with_block(&space[..n]);
 }

@@ -12,6 +12,12 @@
 // Numbers are hexadecimal.
 use finishing::Peeked;
 use libc::STDIN_FILENO;
+use lines::Message;
+use lines::behind;
+use lines::find;
+use lines::message_at;
+use lines::number_at;
+use lines::part;
 use session::PendingMessageToken;
 use session::ProcResult;
 use show::byte_at;
@@ -26,45 +32,15 @@ use show::u32_at;
 // How many cases KeyCode has.
 const CODES: u64 = 195;
 
-// The end of the line that has a place.
-fn line_end(lines: &[u8], from: usize) -> usize {
-    let mut at = from;
-    while at < lines.len() {
-        if lines[at] == b'\n' {
-            return at;
-        }
-        at += 1;
-    }
-    at
-}
-
-// The place behind a byte.
-fn behind(lines: &[u8], at: usize) -> usize {
-    if at < lines.len() {
-        return at + 1;
-    }
-    at
-}
-
-fn part(bytes: &[u8], from: usize, to: usize) -> &[u8] {
-    if to < from {
-        return &bytes[0..0];
-    }
-    if bytes.len() < to {
-        return &bytes[0..0];
-    }
-    &bytes[from..to]
-}
-
 // Prints the line of a number.
 fn show_line(lines: &[u8], number: u64) {
     let mut at: usize = 0;
     let mut i: u64 = 0;
     while i < number {
-        at = behind(lines, line_end(lines, at));
+        at = behind(lines, find(lines, at, b'\n'));
         i += 1;
     }
-    text(part(lines, at, line_end(lines, at)));
+    text(part(lines, at, find(lines, at, b'\n')));
 }
 
 fn show_code_name(names: &[u8], place: u8) {
@@ -250,12 +226,6 @@ fn show_refused(number: u32) {
     text(b"\n");
 }
 
-struct Message {
-    kind: u32,
-    wparam: u64,
-    lparam: u64,
-}
-
 fn show_message(m: Message) {
     hex(m.kind as u64, 1);
     text(b" ");
@@ -350,67 +320,6 @@ fn end(
 
 // ---- a line read
 
-// The value of a hexadecimal digit; 16 where it is none.
-fn digit_value(b: u8) -> u8 {
-    if b'0' <= b && b <= b'9' {
-        return b - b'0';
-    }
-    if b'a' <= b && b <= b'f' {
-        return b - b'a' + 10;
-    }
-    16
-}
-
-fn skip_spaces(line: &[u8], from: usize) -> usize {
-    let mut at = from;
-    while at < line.len() {
-        if line[at] != b' ' {
-            return at;
-        }
-        at += 1;
-    }
-    at
-}
-
-// A number of a line, the place behind it, and whether there is one.
-struct Number {
-    value: u64,
-    next: usize,
-    found: bool,
-}
-
-// The next number from a place on, of up to sixteen digits.
-fn number_at(line: &[u8], from: usize) -> Number {
-    let mut at = skip_spaces(line, from);
-    let mut value: u64 = 0;
-    let mut found = false;
-    while at < line.len() {
-        let d = digit_value(line[at]);
-        if 16 <= d {
-            break;
-        }
-        value = value % 0x1000_0000_0000_0000 * 16 + d as u64;
-        found = true;
-        at += 1;
-    }
-    Number {
-        value,
-        next: at,
-        found,
-    }
-}
-
-fn message_at(line: &[u8], from: usize) -> Message {
-    let kind = number_at(line, from);
-    let wparam = number_at(line, kind.next);
-    let lparam = number_at(line, wparam.next);
-    Message {
-        kind: (kind.value % 0x1_0000_0000) as u32,
-        wparam: wparam.value,
-        lparam: lparam.value,
-    }
-}
-
 fn peeked_at(line: &[u8], from: usize) -> Peeked {
     let kind = number_at(line, from);
     if !kind.found {
@@ -418,22 +327,6 @@ fn peeked_at(line: &[u8], from: usize) -> Peeked {
     }
     let m = message_at(line, from);
     Peeked::Message(m.kind, m.wparam, m.lparam)
-}
-
-// The keys of a line are down, all others up.
-fn set_keys(line: &[u8], state: &mut [u8; 256]) {
-    show::fill(state, 0);
-    let mut at: usize = 4;
-    let mut turn: usize = 0;
-    while turn < line.len() {
-        let n = number_at(line, at);
-        if !n.found {
-            return;
-        }
-        state[(n.value % 256) as usize] = 0x80;
-        at = n.next;
-        turn += 1;
-    }
 }
 
 // ---- the shift
@@ -474,7 +367,7 @@ fn do_line(card: &mut [u8; 256], state: &mut [u8; 256], line: &[u8]) {
         text(b"\n");
     }
     if what == b'k' {
-        set_keys(line, state);
+        lines::set_keys(line, state);
     }
     if what == b'c' {
         show_card(card);
@@ -517,7 +410,7 @@ fn shift<'a>(names: &[u8], us: &'a [u8], flagged: &'a [u8], accent: &'a [u8], in
     let mut turn: usize = 0;
     entrywrite::fresh(&mut session);
     while turn < input.len() {
-        let to = line_end(input, at);
+        let to = find(input, at, b'\n');
         let line = part(input, at, to);
         layout = layout_of(line, layout);
         do_line(&mut card, &mut state, line);

@@ -5,20 +5,16 @@ use Rattle.limits.proofs.open_many.Statement.{statement}
 use Rattle.limits.proofs.open_many.Tie as tie
 use Rattle.limits.proofs.one_if.Reads as one-if-reads
 use Rattle.limits.proofs.open.Reads as open-reads
-use Rattle.limits.proofs.release.Reads as release-reads
 use Rattle.std.proofs.num.wrapping_add_u64.Reads as wrapping-add-u64-reads
 
 abbrev Inv-loop : tie.InvT-loop
-Inv-loop session₀ answers₀ state block n passed₀ i₀ session answers passed i = i ≤ n
+Inv-loop session₀ answers₀ state block m n passed₀ i₀ session answers passed i = i ≤ n
 
 abbrev μ-loop : tie.MeasureT-loop
-μ-loop session₀ answers₀ state block n passed₀ i₀ session answers passed i = n - i
+μ-loop session₀ answers₀ state block m n passed₀ i₀ session answers passed i = n - i
 
 loop-holds : tie.Need-loop-holds Inv-loop μ-loop
 loop-holds c = search needs
-
-release-requires : tie.Need-release-requires Inv-loop μ-loop
-release-requires c κs = search needs
 
 open-requires : tie.Need-open-requires Inv-loop μ-loop
 open-requires c κs = search needs
@@ -48,7 +44,6 @@ open-many-spec =
     Inv-loop
     μ-loop
     loop-holds
-    release-requires
     open-requires
     one-if-requires
     wrapping-add-u64-requires

@@ -26,8 +26,8 @@ fresh-requires c κs = search needs
 loop-holds : tie.Need-loop-holds Inv-loop μ-loop
 loop-holds c = search needs
 
-line-end-requires : tie.Need-line-end-requires Inv-loop μ-loop
-line-end-requires c κs = search needs
+find-requires : tie.Need-find-requires Inv-loop μ-loop
+find-requires c κs = search needs
 
 part-requires : tie.Need-part-requires Inv-loop μ-loop
 part-requires c κs = search needs
@@ -73,7 +73,7 @@ shift-spec =
     slice-aggregate-fresh
     fresh-requires
     loop-holds
-    line-end-requires
+    find-requires
     part-requires
     layout-of-requires
     do-line-requires

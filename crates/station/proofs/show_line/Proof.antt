@@ -4,9 +4,9 @@ use borrow.Author.Needs.{needs}
 use Rattle.station.proofs.show_line.Statement.{statement}
 use Rattle.station.proofs.show_line.Tie as tie
 use Rattle.show.proofs.text.Reads as text-reads
-use Rattle.station.proofs.behind.Reads as behind-reads
-use Rattle.station.proofs.line_end.Reads as line-end-reads
-use Rattle.station.proofs.part.Reads as part-reads
+use Rattle.lines.proofs.behind.Reads as behind-reads
+use Rattle.lines.proofs.find.Reads as find-reads
+use Rattle.lines.proofs.part.Reads as part-reads
 
 abbrev Inv-loop : tie.InvT-loop
 Inv-loop lines number at₀ i₀ at i = i ≤ number
@@ -17,8 +17,8 @@ abbrev μ-loop : tie.MeasureT-loop
 loop-holds : tie.Need-loop-holds Inv-loop μ-loop
 loop-holds c = search needs
 
-line-end-requires : tie.Need-line-end-requires Inv-loop μ-loop
-line-end-requires c κs = search needs
+find-requires : tie.Need-find-requires Inv-loop μ-loop
+find-requires c κs = search needs
 
 behind-requires : tie.Need-behind-requires Inv-loop μ-loop
 behind-requires c κs = search needs
@@ -32,8 +32,8 @@ loop-less c = search needs
 loop-again : tie.Need-loop-again Inv-loop μ-loop
 loop-again c = search needs
 
-line-end-requires-2 : tie.Need-line-end-requires-2 Inv-loop μ-loop
-line-end-requires-2 c κs = search needs
+find-requires-2 : tie.Need-find-requires-2 Inv-loop μ-loop
+find-requires-2 c κs = search needs
 
 part-requires : tie.Need-part-requires Inv-loop μ-loop
 part-requires c κs = search needs
@@ -51,12 +51,12 @@ show-line-spec =
     Inv-loop
     μ-loop
     loop-holds
-    line-end-requires
+    find-requires
     behind-requires
     add-i
     loop-less
     loop-again
-    line-end-requires-2
+    find-requires-2
     part-requires
     text-requires
     returns)

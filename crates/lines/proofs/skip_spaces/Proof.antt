@@ -2,14 +2,14 @@
 use Prim.Native.Nat.{_-_}
 use lib.ListN.{length}
 use borrow.Author.Needs.{needs}
-use Rattle.station.proofs.line_end.Statement.{statement}
-use Rattle.station.proofs.line_end.Tie as tie
+use Rattle.lines.proofs.skip_spaces.Statement.{statement}
+use Rattle.lines.proofs.skip_spaces.Tie as tie
 
 abbrev Inv-loop : tie.InvT-loop
-Inv-loop lines from at₀ at = Unit
+Inv-loop line from at₀ at = Unit
 
 abbrev μ-loop : tie.MeasureT-loop
-μ-loop lines from at₀ at = length lines - at
+μ-loop line from at₀ at = length line - at
 
 loop-holds : tie.Need-loop-holds Inv-loop μ-loop
 loop-holds c = search needs
@@ -32,8 +32,8 @@ loop-again c = search needs
 returns-2 : tie.Need-returns-2 Inv-loop μ-loop
 returns-2 c = search needs
 
-pub line-end-spec : {M : Type 1} → statement M
-line-end-spec =
+pub skip-spaces-spec : {M : Type 1} → statement M
+skip-spaces-spec =
     tie.close
     (tie.spec
     Inv-loop

@@ -2,10 +2,10 @@
 use Prim.Native.Nat.{_≤_, _-_}
 use lib.ListN.{length}
 use borrow.Author.Needs.{needs}
-use Rattle.station.proofs.set_keys.Statement.{statement}
-use Rattle.station.proofs.set_keys.Tie as tie
+use Rattle.lines.proofs.set_keys.Statement.{statement}
+use Rattle.lines.proofs.set_keys.Tie as tie
 use Rattle.show.proofs.fill.Reads as fill-reads
-use Rattle.station.proofs.number_at.Reads as number-at-reads
+use Rattle.lines.proofs.number_at.Reads as number-at-reads
 
 abbrev Inv-loop : tie.InvT-loop
 Inv-loop line state₀ at₀ turn₀ state at turn = turn ≤ length line

@@ -2,10 +2,10 @@
 use Prim.Native.Nat.{_-_}
 use lib.ListN.{length}
 use borrow.Author.Needs.{needs}
-use Rattle.station.proofs.number_at.Statement.{statement}
-use Rattle.station.proofs.number_at.Tie as tie
-use Rattle.station.proofs.digit_value.Reads as digit-value-reads
-use Rattle.station.proofs.skip_spaces.Reads as skip-spaces-reads
+use Rattle.lines.proofs.number_at.Statement.{statement}
+use Rattle.lines.proofs.number_at.Tie as tie
+use Rattle.lines.proofs.digit_value.Reads as digit-value-reads
+use Rattle.lines.proofs.skip_spaces.Reads as skip-spaces-reads
 
 abbrev Inv-loop : tie.InvT-loop
 Inv-loop line from at₀ value₀ found₀ at value found = Unit
