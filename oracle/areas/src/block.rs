@@ -63,7 +63,7 @@ pub(crate) fn native_number(n: Native) -> (u8, u32) {
   }
 }
 
-fn native_at(kind: u8, value: u32) -> Option<Native> {
+pub(crate) fn native_at(kind: u8, value: u32) -> Option<Native> {
   let short = u16::try_from(value).ok();
   match kind {
     0 => (value == 0).then_some(Native::Unidentified),
@@ -113,7 +113,8 @@ pub(crate) fn key_fields(key: &Key) -> (u16, u8, u32, &str) {
   }
 }
 
-fn key_at(number: u16, second: u8, third: u32, text: &[u8]) -> Result<Key, EntryFault> {
+/// A character's text has at most `most` bytes.
+pub(crate) fn key_at(number: u16, second: u8, third: u32, text: &[u8], most: usize) -> Result<Key, EntryFault> {
   let value = match (number, second, third) {
     (0, 0, 0) => Some(None),
     (1, kind, value) => native_at(kind, value).map(|n| Some(Key::Unidentified(n))),
@@ -124,7 +125,7 @@ fn key_at(number: u16, second: u8, third: u32, text: &[u8]) -> Result<Key, Entry
   };
   match value.ok_or(EntryFault::Value)? {
     Some(key) if text.is_empty() => Ok(key),
-    None if (1..=TEXT_MOST).contains(&text.len()) => match std::str::from_utf8(text) {
+    None if (1..=most).contains(&text.len()) => match std::str::from_utf8(text) {
       Ok(s) => Ok(Key::Character(s.into())),
       Err(_) => Err(EntryFault::Text),
     },
@@ -208,7 +209,8 @@ fn entry(rest: &mut &[u8], low: u64) -> Result<(u64, Key), EntryFault> {
   if key < low {
     return Err(EntryFault::Order);
   }
-  let value = key_at(u16::from_le_bytes([n0, n1]), second, u32::from_le_bytes([t0, t1, t2, t3]), text)?;
+  let third = u32::from_le_bytes([t0, t1, t2, t3]);
+  let value = key_at(u16::from_le_bytes([n0, n1]), second, third, text, TEXT_MOST)?;
   Ok((key, value))
 }
 

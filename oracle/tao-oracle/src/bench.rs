@@ -27,9 +27,9 @@ fn peek(msg: &mut MSG) -> bool {
   }
 }
 
-/// Runs `rounds` times ten digits, each press, character, release. Gives nanoseconds per message
-/// and the number of events (two for each digit).
-pub fn scanner_burst(layout: &t::LayoutSpec, rounds: u32) -> (f64, u64) {
+/// Scans the digits 0 to 9 over and over, `digits` in all: each a press, its character, its release. The press peeks the
+/// character, the character the release, the release nothing. Gives the number of events (two for each digit).
+pub fn scan(layout: &t::LayoutSpec, digits: usize) -> u64 {
   install(layout);
   let tables = tables_of(layout);
   let state = [0u8; 256];
@@ -44,26 +44,30 @@ pub fn scanner_burst(layout: &t::LayoutSpec, rounds: u32) -> (f64, u64) {
   let b = KeyEventBuilder::default();
   let hwnd = HWND(std::ptr::null_mut());
   let mut events = 0u64;
-  let start = Instant::now();
-  for _ in 0..rounds {
-    for d in 0..10usize {
-      let scan: isize = if d == 0 { 0x0B } else { 1 + d as isize };
-      let down = scan << 16 | 1;
-      let up = down | 0xC000_0000;
-      for (kind, w, l, next) in [
-        (0x100, 0x30 + d, down, Some((0x102, down))),
-        (0x102, 0x30 + d, down, Some((0x101, up))),
-        (0x101, 0x30 + d, up, None),
-      ] {
-        NEXT.with(|c| c.set(next));
-        let mut r = ProcResult::DefWindowProc;
-        let out = b.process_message(hwnd, kind, WPARAM(w), LPARAM(l), &mut r);
-        events += out.len() as u64;
-        black_box(&out);
-        black_box(matches!(r, ProcResult::Value(LRESULT(0))));
-      }
+  for d in (0..10).cycle().take(digits) {
+    let scan: isize = if d == 0 { 0x0B } else { 1 + d as isize };
+    let down = scan << 16 | 1;
+    let up = down | 0xC000_0000;
+    for (kind, w, l, next) in [
+      (0x100, 0x30 + d, down, Some((0x102, down))),
+      (0x102, 0x30 + d, down, Some((0x101, up))),
+      (0x101, 0x30 + d, up, None),
+    ] {
+      NEXT.with(|c| c.set(next));
+      let mut r = ProcResult::DefWindowProc;
+      let out = b.process_message(hwnd, kind, WPARAM(w), LPARAM(l), &mut r);
+      events += out.len() as u64;
+      black_box(&out);
+      black_box(matches!(r, ProcResult::Value(LRESULT(0))));
     }
   }
+  events
+}
+
+/// Runs `rounds` times ten digits. Gives nanoseconds per message and the number of events.
+pub fn scanner_burst(layout: &t::LayoutSpec, rounds: u32) -> (f64, u64) {
+  let start = Instant::now();
+  let events = scan(layout, 10 * rounds as usize);
   let ns = start.elapsed().as_nanos() as f64 / (f64::from(rounds) * 30.0);
   (ns, events)
 }
