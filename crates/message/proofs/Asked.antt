@@ -33,7 +33,8 @@ use Rattle.questions.specs.Asked.{asNo, asSort, firstFour}
 use Rattle.questions.specs.declared.Asked.{Asked}
 use Rattle.questions.specs.declared.Asked.the-variants as a
 use Rattle.questions.specs.declared.MessageSort.{MessageSort}
-use Rattle.opening.specs.Gives.{Gives, Passes}
+use Rattle.opening.specs.Gives.{Gives}
+use Rattle.dispatch.specs.Passes.{Passes}
 use Rattle.finishing.specs.Resolves.{Does}
 use Rattle.message.specs.Calls.{inputs, message, left}
 

@@ -63,8 +63,8 @@ pub fn open(
         };
     }
     let h = entryread::header_at(session);
-    let after = opening::result_after(sort, h.held, kind, result);
-    let answer = opening::open_by(session, answers, block, state, sort, wparam, lparam);
+    let after = dispatch::result_after(sort, h.held, kind, result);
+    let answer = dispatch::open_by(session, answers, block, state, sort, wparam, lparam);
     Opened {
         answer,
         result: after,

@@ -1,4 +1,1 @@
 mod Opened
-mod Passed
-mod Result
-mod Sorted

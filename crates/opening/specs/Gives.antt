@@ -10,12 +10,9 @@ use Rattle.text.specs.Message.{charUnits}
 use Rattle.session.specs.Limits.{AREA, ENTRIES-MOST, TOKENS-MOST, UNITS-MOST}
 use Rattle.session.specs.Event.{Held}
 use Rattle.session.specs.Area.{encode, decode, sessionOk, encodeAnswer}
-use Rattle.session.specs.Calls.{Sort, Effect}
-use Rattle.session.specs.Builder.{Keyboard}
-use Rattle.session.specs.Given.{Message}
-use Rattle.session.specs.Session.{Session}
+use Rattle.session.specs.Calls.{Effect}
 use Rattle.session.specs.Answers.{openSaid, saidToken}
-use Rattle.session.specs.Questions.{isHeld, question5, question7, question8, question9}
+use Rattle.session.specs.Questions.{isHeld}
 use Rattle.session.specs.declared.OpenAnswer.{OpenAnswer}
 
 -- the answer r and both areas are those of the effect
@@ -31,10 +28,3 @@ pub record MayChar (x : List ℕ) (wparam : ℕ) : Type 0 where
   pub entry : isHeld (decode x .held) ≡ true → length (decode x .entries) < ENTRIES-MOST
   pub token : isHeld (decode x .held) ≡ true → decode x .handed < TOKENS-MOST
   pub units : (h : Held) → decode x .held ≡ some h → length (h .units) + length (charUnits wparam) ≤ UNITS-MOST
-
--- the questions that see to room and to the held press
-pub record Passes (s : Session) (b : Keyboard) (m : Message) (k : Sort) : Type 0 where
-  pub held : question5 s k ≡ true
-  pub entries : question7 s b k ≡ true
-  pub tokens : question8 s b k ≡ true
-  pub units : question9 s m k ≡ true

@@ -1,14 +1,15 @@
 -- What the writes make of an area: an entry behind the last one, the held press.
 -- Assumes nothing.
 use mathlib.Core.Path.{_≡_, refl, sym, ap, _∙_}
-use mathlib.Core.Bool.{true}
+use mathlib.Core.Bool.{Bool, true, false, not}
 use mathlib.Core.List.{List, [], _∷_, _++_}
-use mathlib.Core.Option.{Option, some}
+use mathlib.Core.Option.{Option, some, none}
 use Prim.Native.Nat.{ℕ, suc, _+_, _*_, _≤_, _<_}
 use native.Mathlib.Omega.{arith}
 use lib.ListN.{getD, length, length-take}
 use borrow.Author.Tests.{lt-ltb}
 use Rattle.area.specs.Bytes.{le}
+use Rattle.area.specs.Pick.{pick}
 use Rattle.area.specs.Splice.{splice}
 use Rattle.keystroke.specs.declared.KeyLParam.{KeyLParam}
 use Rattle.session.specs.Limits.{ENTRIES-MOST, TOKENS-MOST, UNITS-MOST}
@@ -96,3 +97,17 @@ pub held-set :
 held-set x b r o f {k} p u =
     let q = kept x b (r .size) (r .passed) in
     p ∙ ap (λ (l : List ℕ). splice k (heldField .put o) l) (sym (q .1)) ∙ rw u (held-put (decode x) (q .0) o f)
+
+-- .. kept or forgotten
+module _ (x : List ℕ) (b : (i : ℕ) → getD x i 0 < 256) (r : IsArea x) where
+  pub held-kept :
+      (keep : Bool) → not keep ≡ false →
+      x ≡ encode (record { handed = decode x .handed; held = pick keep (decode x .held) none; entries = decode x .entries })
+  held-kept true e = sym (kept x b (r .size) (r .passed) .1)
+  held-kept false e = let z : _≡_ {A = ℕ} 0 1 = cc in absurd (omega arith)
+
+  pub held-forgotten :
+      (keep : Bool) → not keep ≡ true → {k : ℕ} {y : List ℕ} → y ≡ splice k (heldField .put none) x → k ≡ 2 →
+      y ≡ encode (record { handed = decode x .handed; held = pick keep (decode x .held) none; entries = decode x .entries })
+  held-forgotten true e p u = let z : _≡_ {A = ℕ} 0 1 = cc in absurd (omega arith)
+  held-forgotten false e p u = held-set x b r none tt p u

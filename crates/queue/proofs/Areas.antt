@@ -7,11 +7,12 @@ use mathlib.Core.Option.{Option}
 use Prim.Native.Nat.{ℕ, _<_}
 use lib.ListN.{getD, length}
 use Rattle.area.proofs.Bytes.{each-byte}
+use Rattle.session.specs.Limits.{ENTRIES-MOST, TOKENS-MOST}
 use Rattle.session.specs.Event.{Held}
 use Rattle.session.specs.Session.{Session, unitsWithin, heldFits, isSession}
 use Rattle.session.specs.Area.{encode, decode, sessionOk}
 use Rattle.session.proofs.Area.{session-back, session-exact}
-use Rattle.queue.specs.Room.{IsArea}
+use Rattle.queue.specs.Room.{IsArea, HasRoom}
 use Rattle.queue.proofs.Sessions.{held-session}
 
 -- x is the area of the session s
@@ -39,3 +40,7 @@ pub held-area :
     AreaOf (record { handed = s .handed; entries = s .entries; held = h }) y
 held-area s h a u f e =
     area-of _ _ (held-session s h (a .good) u f) (e ∙ ap (λ (t : Session). encode (record { handed = t .handed; held = h; entries = t .entries })) (a .back))
+
+-- room for another entry, said of the session
+pub room-of : (s : Session) {x : List ℕ} → AreaOf s x → length (s .entries) < ENTRIES-MOST → s .handed < TOKENS-MOST → HasRoom x
+room-of s a n t = record { size = a .area .size; passed = a .area .passed; entry = rw (a .back) n; token = rw (a .back) t }

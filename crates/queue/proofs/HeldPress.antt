@@ -9,16 +9,17 @@ use native.Mathlib.Omega.{arith}
 use lib.Dec.{leb}
 use lib.ListN.{getD, length, take, drop, length-drop}
 use borrow.Author.Tests.{leb-true}
+use Rattle.area.specs.Pick.{pick}
 use Rattle.area.proofs.Splice.{part-rest}
 use Rattle.session.specs.Limits.{AREA, UNITS-MOST}
 use Rattle.session.specs.Event.{Held}
-use Rattle.session.specs.Session.{unitsWithin, heldFits}
-use Rattle.session.specs.Area.{held, decode}
+use Rattle.session.specs.Session.{Session, unitsWithin, heldFits, isSession}
+use Rattle.session.specs.Area.{held, encode, decode}
 use Rattle.session.specs.Questions.{isHeld}
 use Rattle.entryread.proofs.Places.{held-at, held-ok}
 use Rattle.queue.specs.Room.{IsArea}
-use Rattle.queue.proofs.Areas.{own-area}
-use Rattle.queue.proofs.Sessions.{held-parts}
+use Rattle.queue.proofs.Areas.{AreaOf, area-of, own-area}
+use Rattle.queue.proofs.Sessions.{held-parts, held-session}
 
 within : (h : Held) → unitsWithin (some h) ≡ true → length (h .units) ≤ UNITS-MOST
 unfolding unitsWithin
@@ -59,3 +60,18 @@ one-held (some h) b e n = refl
 pub nothing-within : (unitsWithin none ≡ true) × (heldFits none ≡ true)
 unfolding unitsWithin heldFits
 nothing-within = (refl, refl)
+
+-- ---- the held press kept or forgotten
+
+kept-within : (s : Session) (keep : Bool) → isSession s ≡ true → (unitsWithin (pick keep (s .held) none) ≡ true) × (heldFits (pick keep (s .held) none) ≡ true)
+kept-within s true g = held-parts s g
+kept-within s false g = nothing-within
+
+pub keep-area :
+    (s : Session) (keep : Bool) {x y : List ℕ} → AreaOf s x →
+    y ≡ encode (record { handed = decode x .handed; held = pick keep (decode x .held) none; entries = decode x .entries }) →
+    AreaOf (record { handed = s .handed; entries = s .entries; held = pick keep (s .held) none }) y
+keep-area s keep a e =
+    let w = kept-within s keep (a .good) in
+    area-of _ _ (held-session s (pick keep (s .held) none) (a .good) (w .0) (w .1))
+    (e ∙ ap (λ (t : Session). encode (record { handed = t .handed; held = pick keep (t .held) none; entries = t .entries })) (a .back))

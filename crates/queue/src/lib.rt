@@ -6,6 +6,7 @@ ghost use mathlib.Core.Option.{some, none};
 ghost use Prim.Native.Nat.{_+_, _*_, _≤_};
 ghost use lib.ListN.{length};
 ghost use Rattle.area.specs.Bytes.{le};
+ghost use Rattle.area.specs.Pick.{pick};
 ghost use Rattle.area.specs.Splice.{splice};
 ghost use Rattle.session.specs.Limits.{UNITS-MOST};
 ghost use Rattle.session.specs.Session.{press, release, character, complete, heldFits, eventFits, infoFits};
@@ -97,5 +98,15 @@ pub fn forget_held(area: &mut [u8])
     requires { ⌜ IsArea (now area) ⌝ }
     ensures { λ _. ⌜ now (area .exit) ≡ encode (record { handed = decode (now (area .entry)) .handed; held = none; entries = decode (now (area .entry)) .entries }) ⌝ }
 {
-    entrywrite::put_no_held(area, 2);
+    entrywrite::put_no_held(area, 2); // forgotten
+}
+
+// What a message leaves of the held press: kept, or forgotten.
+pub fn keep_held(area: &mut [u8], keep: bool)
+    requires { ⌜ IsArea (now area) ⌝ }
+    ensures { λ _. ⌜ now (area .exit) ≡ encode (record { handed = decode (now (area .entry)) .handed; held = pick keep (decode (now (area .entry)) .held) none; entries = decode (now (area .entry)) .entries }) ⌝ }
+{
+    if !keep {
+        entrywrite::put_no_held(area, 2); // not kept
+    }
 }

@@ -1,16 +1,21 @@
 -- `opening::open_char` meets its contract.
 -- Assumes nothing.
-use Rattle.opening.proofs.Opened.{units-count, more-fits, char-room, char-opened, char-unheld}
-use Rattle.queue.proofs.HeldPress.{can-read, is-read, read-fits, none-held, one-held}
-use Rattle.queue.specs.Room.{IsArea}
+use mathlib.Core.Path.{_≡_, refl}
+use mathlib.Core.Bool.{true}
+use mathlib.Core.Option.{some}
+use Prim.Native.Nat.{ℕ, _+_, _≤_, _<_}
+use native.Mathlib.Omega.{arith}
+use lib.ListN.{getD, length}
+use borrow.Author.Needs.{needs}
+use Rattle.text.specs.Message.{charUnits}
+use Rattle.session.specs.Limits.{UNITS-MOST}
+use Rattle.session.specs.Session.{heldFits}
 use Rattle.session.specs.Area.{decode}
 use Rattle.session.specs.Questions.{isHeld}
 use Rattle.session.specs.Types.{asHeld}
-use lib.ListN.{getD, length}
-use Prim.Native.Nat.{ℕ, _<_}
-use native.Mathlib.Omega.{arith}
-use mathlib.Core.Path.{_≡_, refl, sym, ap, _∙_}
-use borrow.Author.Needs.{needs}
+use Rattle.queue.specs.Room.{IsArea}
+use Rattle.queue.proofs.HeldPress.{can-read, is-read, read-fits, none-held, one-held}
+use Rattle.opening.proofs.Opened.{units-count, more-fits, char-room, char-opened, char-unheld}
 use Rattle.opening.proofs.open_char.Statement.{statement}
 use Rattle.opening.proofs.open_char.Tie as tie
 
@@ -19,9 +24,6 @@ area-in c = record { size = c .pre .0 .size; passed = c .pre .0 .passed }
 
 bytes-in : (c : tie.After-slice-known) (i : ℕ) → getD (c .before .args .session .now) i 0 < 256
 bytes-in c i = omega (arith, c .slice-known .given i)
-
-units-length : (c : tie.After-held-at) → length (c .held-at .result .units) ≡ 16
-units-length c = search needs
 
 header-at-requires : tie.Need-header-at-requires
 header-at-requires c κs = search needs
@@ -38,8 +40,11 @@ same-length-2 c = search needs
 returns : tie.Need-returns
 returns c =
     λ kind lparam.
-    let s = c .before .before .before .before .before .before .before .before .before .before in
-    char-unheld (s .args .session .now) (bytes-in (c .before .before .before .before .before .before .before .before .before)) (area-in s) _ (none-held _ _ (c .before .before .before .before .before .before .header-at .ensures .1) (c .before .before .before .before .if1 .taken)) (c .before .before .open-none .ensures .0) (c .before .before .open-none .ensures .1)
+    let none = c .before .before in
+    let head = none .before .before .before .before in
+    let known = head .before .before .before in
+    let x = known .before .args .session .now in
+    char-unheld x (bytes-in known) (area-in (known .before)) _ (none-held _ _ (head .header-at .ensures .1) (none .before .before .if1 .taken)) (none .open-none .ensures)
 
 sub-held-at : tie.Need-sub-held-at
 sub-held-at c = search needs
@@ -51,40 +56,58 @@ part-held-at-end : tie.Need-part-held-at-end
 part-held-at-end c = search needs
 
 held-at-requires : tie.Need-held-at-requires
-held-at-requires c κs = can-read (c .before .before .before .before .before .before .before .before .args .session .now) (area-in (c .before .before .before .before .before .before .before .before)) (one-held (decode (c .before .before .before .before .before .before .before .before .args .session .now) .held) _ (c .before .before .before .before .header-at .ensures .1) (c .before .before .if1 .left))
+held-at-requires c κs =
+    let s = c .before .before .before .before .before .before .before .before in
+    can-read (s .args .session .now) (area-in s) (one-held (decode (s .args .session .now) .held) _ (c .before .before .before .before .header-at .ensures .1) (c .before .before .if1 .left))
+
+-- ---- the held press, as it was read
+
+abbrev start-of : tie.After-held-at → tie.Start
+start-of c = c .before .before .before .before .before .before .before .before .before
+
+one-in : (c : tie.After-held-at) → isHeld (decode (start-of c .args .session .now) .held) ≡ true
+one-in c = one-held (decode (start-of c .args .session .now) .held) _ (c .before .before .before .before .before .header-at .ensures .1) (c .before .before .before .if1 .left)
+
+held-in : (c : tie.After-held-at) → decode (start-of c .args .session .now) .held ≡ some (asHeld (c .held-at .result))
+held-in c = is-read (start-of c .args .session .now) (area-in (start-of c)) (one-in c) (asHeld (c .held-at .result)) (c .held-at .ensures .0)
+
+fits-in : (c : tie.After-held-at) → heldFits (some (asHeld (c .held-at .result))) ≡ true
+fits-in c =
+    let known = c .before .before .before .before .before .before .before .before in
+    read-fits (start-of c .args .session .now) (area-in (start-of c)) (one-in c) (bytes-in known) (asHeld (c .held-at .result)) (c .held-at .ensures .0) .1
+
+-- the message's units go into it
+room-in : (c : tie.After-held-at) → length (asHeld (c .held-at .result) .units) + length (charUnits (start-of c .args .wparam)) ≤ UNITS-MOST
+room-in c = start-of c .pre .0 .units (asHeld (c .held-at .result)) (held-in c)
+
+count-in : (c : tie.After-held-at) → length (asHeld (c .held-at .result) .units) ≡ c .held-at .result .len
+count-in c = let l : length (c .held-at .result .units) ≡ 16 = search needs in units-count (c .held-at .result) l (c .held-at .ensures .2)
 
 with-units-requires : tie.Need-with-units-requires
-with-units-requires c κs =
-    let s = c .before .before .before .before .before .before .before .before .before in
-    let h = c .held-at .result in
-    let l = s .pre .0 .units (asHeld h) (is-read (s .args .session .now) (area-in s) (one-held (decode (s .args .session .now) .held) _ (c .before .before .before .before .before .header-at .ensures .1) (c .before .before .before .if1 .left)) (asHeld h) (c .held-at .ensures .0)) in
-    omega (arith, units-count h (units-length c) (c .held-at .ensures .2))
+with-units-requires c κs = omega (arith, room-in c, count-in c)
 
 set-held-requires : tie.Need-set-held-requires
 set-held-requires c κs =
-    let s = c .before .before .before .before .before .before .before .before .before .before .before in
-    let r = c .before .before in
-    let h = r .held-at .result in
-    let x = s .args .session .now in
-    let o = one-held (decode x .held) _ (c .before .before .before .before .before .before .before .header-at .ensures .1) (c .before .before .before .before .before .if1 .left) in
-    let e = is-read x (area-in s) o (asHeld h) (r .held-at .ensures .0) in
-    let l = s .pre .0 .units (asHeld h) e in
-    let f = read-fits x (area-in s) o (bytes-in (c .before .before .before .before .before .before .before .before .before .before)) (asHeld h) (r .held-at .ensures .0) in
     let w = c .before .with-units .ensures in
-    let n = w .2 in
-    (area-in s, rw (w .1) (r .held-at .ensures .1), omega (arith, units-count h (units-length r) (r .held-at .ensures .2)), more-fits x (bytes-in (c .before .before .before .before .before .before .before .before .before .before)) (area-in s) (s .args .wparam) (asHeld h) _ e (w .0) (f .1))
+    let read = c .before .before in
+    let known = read .before .before .before .before .before .before .before .before in
+    let s = known .before in
+    let n = w .2 in (
+      area-in s,
+      rw (w .1) (read .held-at .ensures .1),
+      omega (arith, room-in read, count-in read),
+      more-fits (s .args .session .now) (bytes-in known) (area-in s) (s .args .wparam) (asHeld (read .held-at .result)) _ (held-in read) (w .0) (fits-in read),
+    )
 
 add-character-requires : tie.Need-add-character-requires
 add-character-requires c κs =
-    let s = c .before .before .before .before .before .before .before .before .before .before .before .before .before .before .before in
-    let r = c .before .before .before .before .before .before in
-    let h = r .held-at .result in
-    let x = s .args .session .now in
-    let o = one-held (decode x .held) _ (c .before .before .before .before .before .before .before .before .before .before .before .header-at .ensures .1) (c .before .before .before .before .before .before .before .before .before .if1 .left) in
-    let e = is-read x (area-in s) o (asHeld h) (r .held-at .ensures .0) in
-    let b = bytes-in (c .before .before .before .before .before .before .before .before .before .before .before .before .before .before) in
-    let f = read-fits x (area-in s) o b (asHeld h) (r .held-at .ensures .0) in
-    char-room x b (area-in s) (s .args .wparam) (asHeld h) _ e (c .before .before .before .before .before .with-units .ensures .0) (f .1) (s .pre .0 .units (asHeld h) e) (c .before .before .before .set-held .ensures) (s .pre .0 .entry o) (s .pre .0 .token o)
+    let set = c .before .before .before in
+    let more = set .before .before in
+    let read = more .before in
+    let known = read .before .before .before .before .before .before .before .before in
+    let s = known .before in
+    char-room (s .args .session .now) (bytes-in known) (area-in s) (s .args .wparam) (asHeld (read .held-at .result)) _ (held-in read)
+    (more .with-units .ensures .0) (fits-in read) (room-in read) (set .set-held .ensures) (s .pre .0 .entry (one-in read)) (s .pre .0 .token (one-in read))
 
 no-events-requires : tie.Need-no-events-requires
 no-events-requires c κs = let p = c .before .before .before .before .before .before .before .before .before .before .before .before .before .before .before .before .before .before .before .pre .1 in omega arith
@@ -98,15 +121,14 @@ same-length-4 c = search needs
 returns-2 : tie.Need-returns-2
 returns-2 c =
     λ kind lparam.
-    let s = c .before .before .before .before .before .before .before .before .before .before .before .before .before .before .before .before .before .before .before .before .before .before in
-    let r = c .before .before .before .before .before .before .before .before .before .before .before .before .before in
-    let h = r .held-at .result in
-    let x = s .args .session .now in
-    let o = one-held (decode x .held) _ (c .before .before .before .before .before .before .before .before .before .before .before .before .before .before .before .before .before .before .header-at .ensures .1) (c .before .before .before .before .before .before .before .before .before .before .before .before .before .before .before .before .if1 .left) in
-    let e = is-read x (area-in s) o (asHeld h) (r .held-at .ensures .0) in
-    let b = bytes-in (c .before .before .before .before .before .before .before .before .before .before .before .before .before .before .before .before .before .before .before .before .before) in
-    let f = read-fits x (area-in s) o b (asHeld h) (r .held-at .ensures .0) in
-    char-opened x b (area-in s) (s .args .wparam) (asHeld h) _ e (c .before .before .before .before .before .before .before .before .before .before .before .before .with-units .ensures .0) (f .1) (s .pre .0 .units (asHeld h) e) (c .before .before .before .before .before .before .before .before .before .before .set-held .ensures) kind lparam (c .before .before .before .before .before .before .add-character .ensures .0) (c .before .before .before .before .before .before .add-character .ensures .1) (c .before .before .no-events .ensures)
+    let put = c .before .before .before .before .before .before in
+    let set = put .before .before .before .before in
+    let more = set .before .before in
+    let read = more .before in
+    let known = read .before .before .before .before .before .before .before .before in
+    let s = known .before in
+    char-opened (s .args .session .now) (bytes-in known) (area-in s) (s .args .wparam) (asHeld (read .held-at .result)) _ (held-in read)
+    (more .with-units .ensures .0) (fits-in read) (room-in read) (set .set-held .ensures) kind lparam (put .add-character .ensures) (c .before .before .no-events .ensures) refl
 
 pub open-char-spec : {M : Type 1} → statement M
 open-char-spec =

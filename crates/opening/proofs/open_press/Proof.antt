@@ -1,8 +1,9 @@
 -- `opening::open_press` meets its contract.
 -- Assumes nothing.
-use Rattle.opening.proofs.Opened.{opened}
-use mathlib.Core.Path.{_∙_, ap}
+use mathlib.Core.Path.{refl}
 use borrow.Author.Needs.{needs}
+use Rattle.session.specs.Area.{decode}
+use Rattle.opening.proofs.Opened.{press-opened}
 use Rattle.opening.proofs.open_press.Statement.{statement}
 use Rattle.opening.proofs.open_press.Tie as tie
 
@@ -27,8 +28,10 @@ same-length-2 c = search needs
 returns : tie.Need-returns
 returns c =
     let put = c .before .before .before .before .before .before in
-    let a = c .before .before .before .before .before .before .before .before .before .before .before .before .args in
-    rw (c .before .before .before .before .before .before .before .before .destructure-key-lparam .ensures, c .before .before .before .before .before .before .before .before .before .virtual-key .ensures) at (opened _ _ _ (put .add-press .ensures .0) (put .add-press .ensures .1) (c .before .before .no-events .ensures))
+    let read = put .before .before in
+    let a = read .before .before .before .before .args in
+    press-opened (decode (a .session .now)) (a .wparam) (a .lparam) (decode (a .session .now) .held) (put .add-press .ensures) (c .before .before .no-events .ensures)
+    (read .before .virtual-key .ensures) (read .destructure-key-lparam .ensures) (refl, refl) refl
 
 pub open-press-spec : {M : Type 1} → statement M
 open-press-spec =

@@ -1,9 +1,14 @@
 -- `opening::open_release` meets its contract.
 -- Assumes nothing.
-use Rattle.opening.proofs.Opened.{opened, release-fits}
 use mathlib.Core.Path.{refl}
 use native.Mathlib.Omega.{arith}
 use borrow.Author.Needs.{needs}
+use Rattle.keystroke.specs.LParam.{keyLParam, virtualKey}
+use Rattle.session.specs.Session.{release}
+use Rattle.session.specs.Area.{decode}
+use Rattle.session.specs.Builder.{fromMessage}
+use Rattle.focus.specs.Written.{keyboardAt}
+use Rattle.opening.proofs.Opened.{opened, release-read, release-fits}
 use Rattle.opening.proofs.open_release.Statement.{statement}
 use Rattle.opening.proofs.open_release.Tie as tie
 
@@ -33,7 +38,12 @@ same-length-2 c = search needs
 returns : tie.Need-returns
 returns c =
     let put = c .before .before .before .before .before .before in
-    rw (c .before .before .before .before .before .before .before .before .from-message .ensures .0, c .before .before .before .before .before .before .before .before .before .destructure-key-lparam .ensures, c .before .before .before .before .before .before .before .before .before .before .virtual-key .ensures) at (opened _ _ _ (put .add-release .ensures .0) (put .add-release .ensures .1) (c .before .before .no-events .ensures))
+    let made = put .before .before in
+    let a = made .before .before .before .before .before .before .before .args in
+    let board = keyboardAt (a .block .now) (a .state .now) in
+    opened (decode (a .session .now)) (release (fromMessage board (virtualKey (a .wparam)) (keyLParam (a .lparam)))) (decode (a .session .now) .held)
+    (put .add-release .ensures) (c .before .before .no-events .ensures)
+    (release-read board (made .from-message .ensures .0) (made .before .before .virtual-key .ensures) (made .before .destructure-key-lparam .ensures) (refl, refl)) refl
 
 pub open-release-spec : {M : Type 1} → statement M
 open-release-spec =

@@ -20,19 +20,23 @@ use Rattle.queue.proofs.Areas.{own-area}
 use Rattle.questions.specs.Asked.{asSort}
 use Rattle.questions.specs.declared.MessageSort.{MessageSort}
 use Rattle.questions.specs.declared.MessageSort.the-variants as sort
 use Rattle.opening.specs.Gives.{Gives}
 
-module _ (s : Session) (b : Keyboard) (m : Message) {k : MessageSort} {r : OpenAnswer} {x y : List ℕ} where
-  pub by-press : k ≡ sort.KeyDown → Gives (opening s (press (virtualKey (m .wparam)) (keyLParam (m .lparam))) (s .held)) r x y → Gives (messageEffect s b m (asSort k)) r x y
-  unfolding asSort
-  by-press e g = rw (e, press-effect s b m) g
-
-  pub by-release :
-      k ≡ sort.KeyUp → Gives (opening s (release (fromMessage b (virtualKey (m .wparam)) (keyLParam (m .lparam)))) (s .held)) r x y →
+-- what was opened or answered, asked of this very message: w and l are its parameters
+module _ (s : Session) (b : Keyboard) (m : Message) {k : MessageSort} {r : OpenAnswer} {x y : List ℕ} {w l : ℕ} where
+  pub by-press :
+      k ≡ sort.KeyDown → Gives (opening s (press (virtualKey w) (keyLParam l)) (s .held)) r x y → (w ≡ m .wparam) × (l ≡ m .lparam) →
       Gives (messageEffect s b m (asSort k)) r x y
   unfolding asSort
-  by-release e g = rw (e, release-effect s b m) g
+  by-press e g f = rw (e, press-effect s b m, ← f .0, ← f .1) g
 
+  pub by-release :
+      k ≡ sort.KeyUp → Gives (opening s (release (fromMessage b (virtualKey w) (keyLParam l))) (s .held)) r x y → (w ≡ m .wparam) × (l ≡ m .lparam) →
+      Gives (messageEffect s b m (asSort k)) r x y
+  unfolding asSort
+  by-release e g f = rw (e, release-effect s b m, ← f .0, ← f .1) g
+
+module _ (s : Session) (b : Keyboard) (m : Message) {k : MessageSort} {r : OpenAnswer} {x y : List ℕ} where
   pub by-char : k ≡ sort.Char → Gives (charOpened s m (s .held)) r x y → Gives (messageEffect s b m (asSort k)) r x y
   unfolding asSort
   by-char e g = rw (e, char-effect s b m) g

@@ -1,16 +1,17 @@
--- `opening::open_by` meets its contract.
+-- `dispatch::open_by` meets its contract.
 -- Assumes nothing.
+use mathlib.Core.Path.{refl}
 use Prim.Native.Nat.{ℕ}
 use native.Mathlib.Omega.{arith}
 use Rattle.session.specs.Given.{Message}
 use Rattle.session.specs.Area.{decode}
 use Rattle.session.specs.Builder.{Keyboard}
 use Rattle.focus.specs.Written.{keyboardAt}
-use Rattle.opening.proofs.Passed.{press-room, release-room, dead-char-room, dead-char-held, may-char, focus-entries, focus-tokens}
-use Rattle.opening.proofs.Sorted.{by-press, by-release, by-char, by-dead-char, by-focus, by-ignored}
+use Rattle.dispatch.proofs.Passed.{press-room, release-room, dead-char-room, dead-char-held, may-char, focus-entries, focus-tokens}
+use Rattle.dispatch.proofs.Sorted.{by-press, by-release, by-char, by-dead-char, by-focus, by-ignored}
 use borrow.Author.Needs.{needs}
-use Rattle.opening.proofs.open_by.Statement.{statement}
-use Rattle.opening.proofs.open_by.Tie as tie
+use Rattle.dispatch.proofs.open_by.Statement.{statement}
+use Rattle.dispatch.proofs.open_by.Tie as tie
 
 abbrev board : tie.Start → Keyboard
 board s = keyboardAt (s .args .block .now) (s .args .state .now)
@@ -76,7 +77,7 @@ returns : tie.Need-returns
 returns c =
     λ kind.
     let s = c .before .before .before .before .before .before .before .before .before .before .before .before .before in
-    by-press (decode (s .args .session .now)) (board s) (message s kind) (c .before .before .before .before .before .before .before .enum-told .given .1) (c .before .before .before .before .open-press .ensures)
+    by-press (decode (s .args .session .now)) (board s) (message s kind) (c .before .before .before .before .before .before .before .enum-told .given .1) (c .before .before .before .before .open-press .ensures) (refl, refl)
 
 same-length-3 : tie.Need-same-length-3
 same-length-3 c = search needs
@@ -88,7 +89,7 @@ returns-2 : tie.Need-returns-2
 returns-2 c =
     λ kind.
     let s = c .before .before .before .before .before .before .before .before .before .before .before .before .before in
-    by-release (decode (s .args .session .now)) (board s) (message s kind) (c .before .before .before .before .before .before .before .enum-told2 .given .1) (c .before .before .before .before .open-release .ensures)
+    by-release (decode (s .args .session .now)) (board s) (message s kind) (c .before .before .before .before .before .before .before .enum-told2 .given .1) (c .before .before .before .before .open-release .ensures) (refl, refl)
 
 same-length-5 : tie.Need-same-length-5
 same-length-5 c = search needs

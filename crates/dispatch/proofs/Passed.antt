@@ -2,7 +2,7 @@
 -- Assumes nothing.
 use mathlib.Core.Path.{_≡_, refl}
 use mathlib.Core.Bool.{true}
-use mathlib.Core.List.{List, [], _∷_}
+use mathlib.Core.List.{List}
 use mathlib.Core.Option.{Option, some}
 use Prim.Native.Nat.{ℕ, _+_, _≤_}
 use native.Mathlib.Omega.{arith}
@@ -12,7 +12,7 @@ use Rattle.text.specs.Message.{charUnits}
 use Rattle.session.specs.Limits.{ENTRIES-MOST, TOKENS-MOST, UNITS-MOST}
 use Rattle.session.specs.Event.{Held}
 use Rattle.session.specs.Given.{Message}
-use Rattle.session.specs.Session.{Entry, Session}
+use Rattle.session.specs.Session.{Session}
 use Rattle.session.specs.Area.{decode}
 use Rattle.session.specs.Builder.{Keyboard, withUnits}
 use Rattle.session.specs.Calls.{Sort, char}
@@ -23,14 +23,10 @@ use Rattle.queue.specs.Room.{IsArea, HasRoom}
 use Rattle.questions.specs.Asked.{asSort}
 use Rattle.questions.specs.declared.MessageSort.{MessageSort}
 use Rattle.questions.specs.declared.MessageSort.the-variants as sort
-use Rattle.opening.specs.Gives.{MayChar, Passes}
+use Rattle.opening.specs.Gives.{MayChar}
+use Rattle.dispatch.specs.Passes.{Passes}
 
 -- ---- room for so many new entries
-
--- events behind a last entry need one each
-pub behind-last : (l : List Entry) (n k : ℕ) {most : ℕ} → (length l ≡ 0 → ⊥) → k + behindSome l n ≤ most → k + n ≤ most
-behind-last [] n k h m = absurd (h refl)
-behind-last (e ∷ l) n k h m = m
 
 module _ (s : Session) (b : Keyboard) (m : Message) (k : Sort) (p : Passes s b m k) {n : ℕ} (e : newEntries s b k ≡ n) where
   entries-within : length (s .entries) + n ≤ ENTRIES-MOST

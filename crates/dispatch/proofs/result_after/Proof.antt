@@ -1,9 +1,9 @@
--- `opening::result_after` meets its contract.
+-- `dispatch::result_after` meets its contract.
 -- Assumes nothing.
-use Rattle.opening.proofs.Result.{of-sys-press, of-press, of-release, of-char, of-unheld, of-dead-char, of-focus, of-ignored}
+use Rattle.dispatch.proofs.Result.{of-sys-press, of-press, of-release, of-char, of-unheld, of-dead-char, of-focus, of-ignored}
 use mathlib.Core.Path.{_∙_}
-use Rattle.opening.proofs.result_after.Statement.{statement}
-use Rattle.opening.proofs.result_after.Tie as tie
+use Rattle.dispatch.proofs.result_after.Statement.{statement}
+use Rattle.dispatch.proofs.result_after.Tie as tie
 
 enum-told : tie.Need-enum-told
 enum-told c = c .match .keys1

@@ -1,0 +1,3 @@
+mod Passed
+mod Result
+mod Sorted
