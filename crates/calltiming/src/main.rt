@@ -7,7 +7,7 @@
 //
 // It prints how many calls passed and events were handed out, added up, and how many entries the queue is left with; of f and g how
 // many rounds read what they had written.
-use finishing::Peeked;
+use peeked::Peeked;
 use session::PendingMessageToken;
 use session::ProcResult;
 use show::Said;

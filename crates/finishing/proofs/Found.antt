@@ -3,7 +3,7 @@
 use mathlib.Core.Path.{_≡_, refl, sym, ap, _∙_}
 use mathlib.Core.Bool.{Bool, true, false, _&&_}
 use mathlib.Core.List.{List, [], _∷_}
-use mathlib.Core.Option.{Option, some}
+use mathlib.Core.Option.{some}
 use Prim.Native.Nat.{ℕ, suc, _+_, _-_, _*_, _≤_, _<_}
 use native.Mathlib.Omega.{arith}
 use lib.Dec.{eqb, ltb}
@@ -15,7 +15,7 @@ use Rattle.area.proofs.Splice.{part-rest}
 use Rattle.keystroke.specs.declared.KeyLParam.{KeyLParam}
 use Rattle.session.specs.Limits.{AREA, ENTRIES-MOST}
 use Rattle.session.specs.Event.{Info}
-use Rattle.session.specs.Session.{Wait, press, release, character, Entry, Session, tokenOf, infoFits, waitFits}
+use Rattle.session.specs.Session.{press, release, character, Entry, tokenOf, infoFits, waitFits}
 use Rattle.session.specs.Area.{info, pressed, entry, decode}
 use Rattle.session.specs.Calls.{waitIn, findWait}
 use Rattle.session.proofs.Lists.{and-true}
@@ -78,8 +78,8 @@ module _ (k : Pending) (x y block : List ℕ) (t place : ℕ) (a : At k x y bloc
     waits-fit = find-fits t (decode x .entries) (entries-fit (decode x) (own-area x b area-here .good) .1)
 
   -- the part from byte m of the entry on
-  part : (m : ℕ) → take (length x - (109 + 199 * place + m)) (drop (109 + 199 * place + m) x) ≡ drop m here
-  part m = part-rest (109 + 199 * place + m) x ∙ sym (drop-drop m (109 + 199 * place) x)
+  part : (m : ℕ) {k : ℕ} → k ≡ 109 + 199 * place + m → take (length x - k) (drop k x) ≡ drop m here
+  part m {k} e = part-rest k x ∙ ap (λ (n : ℕ). drop n x) e ∙ sym (drop-drop m (109 + 199 * place) x)
 
   long : (m n : ℕ) → m + n ≤ 199 → ((i : ℕ) → getD x i 0 < 256) → n ≤ length (drop m here)
   long m n h b =
@@ -87,23 +87,25 @@ module _ (k : Pending) (x y block : List ℕ) (t place : ℕ) (a : At k x y bloc
       let f = few b in
       rw (drop-drop m (109 + 199 * place) x) (omega (arith, length-drop (109 + 199 * place + m) x))
 
--- ---- an open press
+-- ---- an open press, read from byte k of the area on
 
 module _ (x y block : List ℕ) (t place : ℕ) (a : At case.Press x y block t place) (b : (i : ℕ) → getD x i 0 < 256) where
-  abbrev pressBytes : List ℕ
-  pressBytes = take (length x - (109 + 199 * place + 4)) (drop (109 + 199 * place + 4) x)
-
-  pub press-reads : (5 ≤ length pressBytes) × (pressed .ok pressBytes ≡ true)
-  press-reads =
+  pub press-reads :
+      {k : ℕ} → k ≤ length x → k ≡ 109 + 199 * place + 4 →
+      (5 ≤ length (take (length x - k) (drop k x))) × (pressed .ok (take (length x - k) (drop k x)) ≡ true)
+  press-reads _ e =
       let l = drop (109 + 199 * place) x in
-      rw (part case.Press x y block t place a 4) (long case.Press x y block t place a 4 5 (omega arith) b, press-ok l (a .case) (in-order case.Press x y block t place a))
+      rw (part case.Press x y block t place a 4 e)
+      (long case.Press x y block t place a 4 5 (omega arith) b, press-ok l (a .case) (in-order case.Press x y block t place a))
 
-  pub press-waits : (vkey : ℕ) (l : KeyLParam) → (vkey, l) ≡ pressed .get pressBytes → findWait t (decode x .entries) ≡ some (press vkey l)
-  press-waits vkey l e =
+  pub press-waits :
+      (vkey : ℕ) (l : KeyLParam) {k : ℕ} → (vkey, l) ≡ pressed .get (take (length x - k) (drop k x)) → k ≡ 109 + 199 * place + 4 →
+      findWait t (decode x .entries) ≡ some (press vkey l)
+  press-waits vkey l g e =
       let h = drop (109 + 199 * place) x in
       waits-here case.Press x y block t place a
       ∙ ap waitIn (press-at h (a .case))
-      ∙ ap (λ (q : ℕ × KeyLParam). some (press (q .0) (q .1))) (sym (e ∙ ap (pressed .get) (part case.Press x y block t place a 4)))
+      ∙ ap (λ (q : ℕ × KeyLParam). some (press (q .0) (q .1))) (sym (g ∙ ap (pressed .get) (part case.Press x y block t place a 4 e)))
 
   pub press-range : (vkey : ℕ) (l : KeyLParam) → findWait t (decode x .entries) ≡ some (press vkey l) → (vkey < 65536) × (l .scancode < 256)
   unfolding waitFits
@@ -111,23 +113,25 @@ module _ (x y block : List ℕ) (t place : ℕ) (a : At case.Press x y block t p
       let f : (ltb vkey 65536 && ltb (l .scancode) 256) ≡ true = rw e at (waits-fit case.Press x y block t place a b) in
       let g = and-true (ltb vkey 65536) (ltb (l .scancode) 256) f in (ltb-true vkey 65536 (g .0), ltb-true (l .scancode) 256 (g .1))
 
--- ---- an open release
+-- ---- an open release, the same
 
 module _ (x y block : List ℕ) (t place : ℕ) (a : At case.Release x y block t place) (b : (i : ℕ) → getD x i 0 < 256) where
-  abbrev releaseBytes : List ℕ
-  releaseBytes = take (length x - (109 + 199 * place + 5)) (drop (109 + 199 * place + 5) x)
-
-  pub release-reads : (68 ≤ length releaseBytes) × (info .ok releaseBytes ≡ true)
-  release-reads =
+  pub release-reads :
+      {k : ℕ} → k ≤ length x → k ≡ 109 + 199 * place + 5 →
+      (68 ≤ length (take (length x - k) (drop k x))) × (info .ok (take (length x - k) (drop k x)) ≡ true)
+  release-reads _ e =
       let l = drop (109 + 199 * place) x in
-      rw (part case.Release x y block t place a 5) (long case.Release x y block t place a 5 68 (omega arith) b, release-ok l (a .case) (in-order case.Release x y block t place a))
+      rw (part case.Release x y block t place a 5 e)
+      (long case.Release x y block t place a 5 68 (omega arith) b, release-ok l (a .case) (in-order case.Release x y block t place a))
 
-  pub release-waits : (n : Info) → n ≡ info .get releaseBytes → findWait t (decode x .entries) ≡ some (release n)
-  release-waits n e =
+  pub release-waits :
+      (n : Info) {k : ℕ} → n ≡ info .get (take (length x - k) (drop k x)) → k ≡ 109 + 199 * place + 5 →
+      findWait t (decode x .entries) ≡ some (release n)
+  release-waits n g e =
       let h = drop (109 + 199 * place) x in
       waits-here case.Release x y block t place a
       ∙ ap waitIn (release-at h (a .case))
-      ∙ ap (λ (q : Info). some (release q)) (sym (e ∙ ap (info .get) (part case.Release x y block t place a 5)))
+      ∙ ap (λ (q : Info). some (release q)) (sym (g ∙ ap (info .get) (part case.Release x y block t place a 5 e)))
 
   pub release-range : (n : Info) → findWait t (decode x .entries) ≡ some (release n) → infoFits n ≡ true
   unfolding waitFits

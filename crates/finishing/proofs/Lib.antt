@@ -1,3 +1,3 @@
 pub mod Found
-mod Finished
-mod Ways
+pub mod Finished
+pub mod Ways

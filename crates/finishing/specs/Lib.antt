@@ -1,2 +1,1 @@
-pub mod Peeked
 pub mod Resolves

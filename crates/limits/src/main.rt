@@ -15,7 +15,6 @@
 //
 // Numbers are hexadecimal; what is printed is decimal.
 ghost use Prim.Native.Nat.{_≤_};
-use finishing::Peeked;
 use libc::STDIN_FILENO;
 use lines::Message;
 use lines::behind;
@@ -23,6 +22,7 @@ use lines::find;
 use lines::message_at;
 use lines::number_at;
 use lines::part;
+use peeked::Peeked;
 use session::PendingMessageToken;
 use session::ProcResult;
 use show::Said;

@@ -35,6 +35,8 @@ use Rattle.questions.specs.declared.Asked.the-variants as a
 use Rattle.questions.specs.declared.MessageSort.{MessageSort}
 use Rattle.opening.specs.Gives.{Gives}
 use Rattle.dispatch.specs.Passes.{Passes}
+use Rattle.peeked.specs.Peeked.{asPeeked}
+use Rattle.peeked.specs.declared.Peeked.{Peeked}
 use Rattle.finishing.specs.Resolves.{Does}
 use Rattle.message.specs.Calls.{inputs, message, left}
 
@@ -142,6 +144,11 @@ module _ (x y state block : List ℕ) (r : ProcResult) (m : Message) where
   unfolding openSaid leftBy
   open-refused why e = sym (opened-as (refused (refusalNumber why)) e)
 
+  said-so :
+      (why : Refusal) {v : OpenAnswer} {w u : ProcResult} → (v ≡ o.Refused why) × (w ≡ u) → u ≡ r → outcomeOf x y brings ≡ refused (refusalNumber why) →
+      left (openSaid v) w x y ≡ openOf x y r (inputs state block) m
+  said-so why n h e = rw (n .0, n .1, h) (open-refused why e)
+
   module _ (k : MessageSort) (sorted : asSort k ≡ sortOf m) where
     put-here : firstNo (messageQuestions (decode x) (keyboardAt block state) m (asSort k)) ≡ firstNo (sessionQuestions (decode x) brings)
     unfolding sessionQuestions keyboardOf
@@ -152,26 +159,31 @@ module _ (x y state block : List ℕ) (r : ProcResult) (m : Message) where
     done-here = ap (messageEffect (decode x) (keyboardAt block state) m) sorted ∙ sym (effect-brought (decode x) (inputs state block) m)
 
   module _ {q : Asked} (early : asNo q ≡ firstNo (firstFour x y state block)) where
-    pub open-early : (why : Refusal) → q ≡ a.Failed why → left (openSaid (o.Refused why)) r x y ≡ openOf x y r (inputs state block) m
+    pub open-early :
+        (why : Refusal) → q ≡ a.Failed why → {v : OpenAnswer} {w u : ProcResult} → (v ≡ o.Refused why) × (w ≡ u) → u ≡ r →
+        left (openSaid v) w x y ≡ openOf x y r (inputs state block) m
     unfolding asNo
-    open-early why e = open-refused why (outcome-early x y brings (refusalNumber why) (rw e at early))
+    open-early why e n h = said-so why n h (outcome-early x y brings (refusalNumber why) (rw e at early))
 
     module _ (passed : q ≡ a.Passed) (k : MessageSort) (sorted : asSort k ≡ sortOf m) {p : Asked} (late : asNo p ≡ firstNo (messageQuestions (decode x) (keyboardAt block state) m (asSort k))) where
-      pub open-late : (why : Refusal) → p ≡ a.Failed why → left (openSaid (o.Refused why)) r x y ≡ openOf x y r (inputs state block) m
+      pub open-late :
+          (why : Refusal) → p ≡ a.Failed why → {v : OpenAnswer} {w u : ProcResult} → (v ≡ o.Refused why) × (w ≡ u) → u ≡ r →
+          left (openSaid v) w x y ≡ openOf x y r (inputs state block) m
       unfolding asNo
-      open-late why e =
-          open-refused why
+      open-late why e n h =
+          said-so why n h
           (outcome-late x y brings (four-none x y state block early passed) (refusalNumber why) ((rw e at late) ∙ put-here k sorted))
 
       pub open-passed :
-          p ≡ a.Passed → {v : OpenAnswer} {w : ProcResult} {z u : List ℕ} → w ≡ resultBy (asSort k) (decode x) m r →
-          Gives (messageEffect (decode x) (keyboardAt block state) m (asSort k)) v z u → left (openSaid v) w z u ≡ openOf x y r (inputs state block) m
+          p ≡ a.Passed → (after : ProcResult) {v b : OpenAnswer} {w c : ProcResult} {z u : List ℕ} → after ≡ resultBy (asSort k) (decode x) m r →
+          Gives (messageEffect (decode x) (keyboardAt block state) m (asSort k)) b z u → (v ≡ b) × (w ≡ c) → c ≡ after →
+          left (openSaid v) w z u ≡ openOf x y r (inputs state block) m
       unfolding asNo leftBy
-      open-passed e h g =
+      open-passed e after h g n i =
           let d = done-here k sorted in
           same-left
-          (g .said ∙ ap (λ (f : Effect). saidToken (f .token)) d)
-          (h ∙ ap (λ (s : Sort). resultBy s (decode x) m r) sorted)
+          (ap openSaid (n .0) ∙ g .said ∙ ap (λ (f : Effect). saidToken (f .token)) d)
+          (n .1 ∙ i ∙ h ∙ ap (λ (s : Sort). resultBy s (decode x) m r) sorted)
           (g .session ∙ ap (λ (f : Effect). encode (f .after)) d)
           (g .answers ∙ ap (λ (f : Effect). encodeAnswer (f .events)) d)
           ∙ sym (opened-as _ (outcome-passed x y brings (four-none x y state block early passed) ((rw e at late) ∙ put-here k sorted)))
@@ -231,6 +243,21 @@ module _ (x y state block : List ℕ) (r : ProcResult) (t : ℕ) (n : Option Mes
           (g .session ∙ ap (λ (f : Effect). encode (f .after)) d)
           (g .answers ∙ ap (λ (f : Effect). encodeAnswer (f .events)) d)
           ∙ sym (finished-as _ (outcome-passed x y finishes (four-none x y state block early passed) ((rw e at late) ∙ finish-put)))
+
+-- ---- what a callee was given, which is what it is to be given
+
+-- the questions of the sort q
+pub told-asked :
+    (s : Session) (b : Keyboard) (m : Message) (k : MessageSort) (q : MessageSort) {n : Option ℕ} → n ≡ firstNo (messageQuestions s b m (asSort q)) → q ≡ k →
+    n ≡ firstNo (messageQuestions s b m (asSort k))
+told-asked s b m k q h e = rw (← e) h
+
+-- the message of the token u finished with q
+pub told-done :
+    (s : Session) (b : Keyboard) (t : ℕ) (p : Peeked) {u : ℕ} {q : Peeked} {z w : List ℕ} →
+    Does (finishEffect s b u (asPeeked q) (findWait u (s .entries))) z w → (u ≡ t) × (q ≡ p) →
+    Does (finishEffect s b t (asPeeked p) (findWait t (s .entries))) z w
+told-done s b t p h e = rw (← e .0, ← e .1) h
 
 -- ---- 5 to 9
 

@@ -1,22 +1,10 @@
 // tao's KeyEventBuilder::process_message, cut at its peek: open takes a message, finish what was peeked.
 ghost use mathlib.Core.Path.{_≡_};
-ghost use mathlib.Core.Bool.{true};
-ghost use mathlib.Core.List.{List};
-ghost use Prim.Native.Nat.{ℕ};
-ghost use lib.ListN.{length};
-ghost use Rattle.block.specs.Block.{blockOk};
-ghost use Rattle.session.specs.Limits.{AREA};
-ghost use Rattle.session.specs.Area.{decode};
-ghost use Rattle.session.specs.Calls.{findWait, finishEffect};
 ghost use Rattle.session.specs.Answers.{openOf, finishOf, openSaid, finishSaid};
 ghost use Rattle.session.specs.declared.ProcResult.{ProcResult};
-ghost use Rattle.focus.specs.Written.{keyboardAt};
-ghost use Rattle.queue.specs.Room.{IsArea};
-ghost use Rattle.finishing.specs.Peeked.{asPeeked};
-ghost use Rattle.finishing.specs.Resolves.{Does};
+ghost use Rattle.peeked.specs.Peeked.{asPeeked};
 ghost use Rattle.message.specs.Calls.{inputs, message, left};
-use entryread::Pending;
-use finishing::Peeked;
+use peeked::Peeked;
 use questions::Asked;
 use session::FinishAnswer;
 use session::OpenAnswer;
@@ -34,6 +22,12 @@ pub struct MessageResult {
     pub value: ProcResult,
 }
 
+fn answered(answer: OpenAnswer, result: ProcResult) -> Opened
+    ensures { λ r. ⌜ (r .answer ≡ answer) × (r .result ≡ result) ⌝ }
+{
+    Opened { answer, result }
+}
+
 // Takes a message. `result` is the message result as it was.
 pub fn open(
     session: &mut [u8],
@@ -49,26 +43,17 @@ pub fn open(
 {
     let early = questions::ask_areas(session, answers, state, block);
     if let Asked::Failed(no) = early {
-        return Opened {
-            answer: OpenAnswer::Refused(no),
-            result, // 1 to 4
-        };
+        return answered(OpenAnswer::Refused(no), result); // 1 to 4
     }
     let sort = questions::sort_of(kind, wparam, lparam);
     let late = questions::ask_message(session, block, state, sort, wparam);
     if let Asked::Failed(no) = late {
-        return Opened {
-            answer: OpenAnswer::Refused(no),
-            result, // 5 to 9
-        };
+        return answered(OpenAnswer::Refused(no), result); // 5 to 9
     }
     let h = entryread::header_at(session);
     let after = dispatch::result_after(sort, h.held, kind, result);
     let answer = dispatch::open_by(session, answers, block, state, sort, wparam, lparam);
-    Opened {
-        answer,
-        result: after,
-    }
+    answered(answer, after)
 }
 
 // Takes a message and sets the message result that it is lent.
@@ -90,58 +75,6 @@ pub fn process_message(
     a.answer
 }
 
-// Resolves the message of a token, by what it is and by what was peeked.
-fn finish_open(
-    session: &mut [u8],
-    answers: &mut [u8],
-    state: &[u8],
-    block: &[u8],
-    token: PendingMessageToken,
-    peeked: Peeked,
-)
-    requires { ⌜ IsArea (now session) × (length (now answers) ≡ AREA) × (blockOk (now block) ≡ true) ⌝ }
-    ensures { λ _. ⌜ Does (finishEffect (decode (now (session .entry))) (keyboardAt (now (block .entry)) (now (state .entry))) (token .0) (asPeeked peeked) (findWait (token .0) (decode (now (session .entry)) .entries))) (now (session .exit)) (now (answers .exit)) ⌝ }
-{
-    let h = entryread::header_at(session);
-    let place = pending::find(session, token);
-    if h.count as usize <= place {
-        answers::no_events(answers);
-        return;
-    }
-    let at = 109 + 199 * place;
-    let what = entryread::pending_at(&session[at..]);
-    match what {
-        Pending::Press => finishing::finish_press(
-            session,
-            answers,
-            block,
-            state,
-            token,
-            place,
-            peeked,
-        ),
-        Pending::Release => finishing::finish_release(
-            session,
-            answers,
-            block,
-            state,
-            token,
-            place,
-            peeked,
-        ),
-        Pending::Character => finishing::finish_character(
-            session,
-            answers,
-            block,
-            state,
-            token,
-            place,
-            peeked,
-        ),
-        Pending::Complete => answers::no_events(answers),
-    }
-}
-
 // Finishes the latest open message with what was peeked.
 pub fn finish(
     session: &mut [u8],
@@ -161,6 +94,6 @@ pub fn finish(
     if let Asked::Failed(no) = late {
         return FinishAnswer::Refused(no);
     }
-    finish_open(session, answers, state, block, token, peeked);
+    resolving::finish_open(session, answers, state, block, token, peeked);
     FinishAnswer::Finished
 }

@@ -22,14 +22,15 @@ pub fn find(area: &[u8], token: PendingMessageToken) -> usize
 {
     let h = entryread::header_at(area);
     let n = h.count as usize;
+    let wanted = token.0 as usize;
     let mut i: usize = 0;
     let place = loop {
         if n <= i {
-            break i;
+            break i; // behind the last
         }
         let t = entryread::token_at(&area[109 + 199 * i..]);
-        if t.0 == token.0 {
-            break i;
+        if t.0 as usize == wanted {
+            break i; // carried here
         }
         i += 1;
     };

@@ -94,19 +94,12 @@ pub fn set_held(area: &mut [u8], h: HeldPress)
     entrywrite::put_some_held(area, 2, h);
 }
 
-pub fn forget_held(area: &mut [u8])
-    requires { ⌜ IsArea (now area) ⌝ }
-    ensures { λ _. ⌜ now (area .exit) ≡ encode (record { handed = decode (now (area .entry)) .handed; held = none; entries = decode (now (area .entry)) .entries }) ⌝ }
-{
-    entrywrite::put_no_held(area, 2); // forgotten
-}
-
 // What a message leaves of the held press: kept, or forgotten.
 pub fn keep_held(area: &mut [u8], keep: bool)
     requires { ⌜ IsArea (now area) ⌝ }
     ensures { λ _. ⌜ now (area .exit) ≡ encode (record { handed = decode (now (area .entry)) .handed; held = pick keep (decode (now (area .entry)) .held) none; entries = decode (now (area .entry)) .entries }) ⌝ }
 {
     if !keep {
-        entrywrite::put_no_held(area, 2); // not kept
+        entrywrite::put_no_held(area, 2);
     }
 }

@@ -1,5 +1,5 @@
 // Replays calls with tao's own answers (data/calls, whose form oracle/README.md describes), and says where an answer is another.
-use finishing::Peeked;
+use peeked::Peeked;
 use session::PendingMessageToken;
 use session::ProcResult;
 use show::Said;

@@ -10,7 +10,6 @@
 //   card               shows the digits since the last card
 //
 // Numbers are hexadecimal.
-use finishing::Peeked;
 use libc::STDIN_FILENO;
 use lines::Message;
 use lines::behind;
@@ -18,6 +17,7 @@ use lines::find;
 use lines::message_at;
 use lines::number_at;
 use lines::part;
+use peeked::Peeked;
 use session::PendingMessageToken;
 use session::ProcResult;
 use show::byte_at;

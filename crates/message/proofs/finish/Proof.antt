@@ -1,9 +1,28 @@
 -- `message::finish` meets its contract.
 -- Assumes nothing.
+use mathlib.Core.Path.{refl}
 use borrow.Author.Needs.{needs}
-use Rattle.message.proofs.Asked.{asked-area, asked-answers, asked-block, finish-early, finish-late, finish-passed}
+use Rattle.session.specs.Area.{decode}
+use Rattle.session.specs.Calls.{findWait, finishEffect}
+use Rattle.focus.specs.Written.{keyboardAt}
+use Rattle.peeked.specs.Peeked.{asPeeked}
+use Rattle.finishing.specs.Resolves.{Does}
+use Rattle.message.proofs.Asked.{asked-area, asked-answers, asked-block, told-done, finish-early, finish-late, finish-passed}
 use Rattle.message.proofs.finish.Statement.{statement}
 use Rattle.message.proofs.finish.Tie as tie
+
+-- from the finish of the message back to what the call is given
+abbrev given : tie.After-finish-open → tie.Start
+given c =
+    let early = c .before .before .before .before .before .before .before .before .before in
+    early .before .before .before .before .before .before .before
+
+-- the message of the call's token is finished, with what the call was given as peeked
+done-in :
+    (c : tie.After-finish-open) →
+    let a = given c .args in
+    Does (finishEffect (decode (a .session .now)) (keyboardAt (a .block .now) (a .state .now)) (a .token .0) (asPeeked (a .peeked)) (findWait (a .token .0) (decode (a .session .now) .entries))) (c .finish-open .last .0) (c .finish-open .last .1 .0)
+done-in c = let a = given c .args in told-done _ _ (a .token .0) (a .peeked) (c .finish-open .ensures) (refl, refl)
 
 ask-areas-requires : tie.Need-ask-areas-requires
 ask-areas-requires c κs = search needs
@@ -69,7 +88,7 @@ returns-3 c =
     let early = told .before .before in
     λ result.
     finish-passed _ _ _ _ result _ _ (early .ask-areas .ensures) (told .enum-told .given .1) (late .ask-finish .ensures) (passed .enum-told2 .given .1)
-    (done .finish-open .ensures)
+    (done-in done)
 
 pub finish-spec : {M : Type 1} → statement M
 finish-spec =

@@ -1,17 +1,39 @@
 -- `message::open` meets its contract.
 -- Assumes nothing.
-use mathlib.Core.Path.{sym}
+use mathlib.Core.Path.{_≡_, refl, sym}
 use native.Mathlib.Omega.{arith}
 use borrow.Author.Needs.{needs}
-use Rattle.message.proofs.Asked.{asked-area, asked-answers, asked-block, asked-passes, open-early, open-late, open-passed}
+use Rattle.session.specs.Area.{decode}
+use Rattle.session.specs.Questions.{firstNo, messageQuestions}
+use Rattle.focus.specs.Written.{keyboardAt}
+use Rattle.questions.specs.Asked.{asNo, asSort}
+use Rattle.message.specs.Calls.{message}
+use Rattle.message.proofs.Asked.{asked-area, asked-answers, asked-block, asked-passes, told-asked, open-early, open-late, open-passed}
 use Rattle.message.proofs.open.Statement.{statement}
 use Rattle.message.proofs.open.Tie as tie
+
+-- from the first questions back to what the call is given
+abbrev given : tie.After-ask-areas → tie.Start
+given c = c .before .before .before .before .before .before .before
+
+abbrev asked : tie.After-ask-message → tie.After-ask-areas
+asked c = c .before .before .before .before .before
+
+-- the later questions are those of the message's sort
+late-in :
+    (c : tie.After-ask-message) →
+    let a = given (asked c) .args in
+    asNo (c .ask-message .result) ≡ firstNo (messageQuestions (decode (a .session .now)) (keyboardAt (a .block .now) (a .state .now)) (message (a .kind) (a .wparam) (a .lparam)) (asSort (c .before .before .sort-of .result)))
+late-in c = told-asked _ _ _ (c .before .before .sort-of .result) _ (c .ask-message .ensures _ _) refl
 
 ask-areas-requires : tie.Need-ask-areas-requires
 ask-areas-requires c κs = search needs
 
 enum-known-early : tie.Need-enum-known-early
 enum-known-early c = search needs
+
+answered-requires : tie.Need-answered-requires
+answered-requires c κs = search needs
 
 same-length : tie.Need-same-length
 same-length c = search needs
@@ -21,7 +43,8 @@ same-length-2 c = search needs
 
 returns : tie.Need-returns
 returns c =
-    open-early _ _ _ _ _ _ (c .before .before .before .ask-areas .ensures) _ (c .before .early .given .1)
+    let early = c .before .before .before .before in
+    open-early _ _ _ _ (given early .args .result) _ (early .ask-areas .ensures) _ (c .before .before .early .given .1) (c .answered .ensures) refl
 
 enum-told : tie.Need-enum-told
 enum-told c = search needs
@@ -38,6 +61,9 @@ ask-message-requires c κs =
 enum-known-late : tie.Need-enum-known-late
 enum-known-late c = search needs
 
+answered-requires-2 : tie.Need-answered-requires-2
+answered-requires-2 c κs = search needs
+
 same-length-3 : tie.Need-same-length-3
 same-length-3 c = search needs
 
@@ -46,12 +72,12 @@ same-length-4 c = search needs
 
 returns-2 : tie.Need-returns-2
 returns-2 c =
-    let late = c .before .before .before in
+    let late = c .before .before .before .before in
     let sort = late .before .before in
     let told = sort .before in
     let early = told .before .before in
-    open-late _ _ _ _ _ _ (early .ask-areas .ensures) (told .enum-told .given .1) _ (sort .sort-of .ensures) (late .ask-message .ensures _ _) _
-    (c .before .late .given .1)
+    open-late _ _ _ _ (given early .args .result) _ (early .ask-areas .ensures) (told .enum-told .given .1) _ (sort .sort-of .ensures) (late-in late) _
+    (c .before .before .late .given .1) (c .answered2 .ensures) refl
 
 enum-told-2 : tie.Need-enum-told-2
 enum-told-2 c = search needs
@@ -71,7 +97,10 @@ open-by-requires c κs =
     let e = told .before .before .ask-areas .ensures in
     let p = told .enum-told .given .1 in
     let passed = c .before .before .before .before .before .enum-told2 .given .1 in
-    (asked-area _ _ _ _ e p, asked-answers _ _ _ _ e p, asked-block _ _ _ _ e p, asked-passes _ _ _ _ (late .ask-message .ensures 0 _) passed)
+    (asked-area _ _ _ _ e p, asked-answers _ _ _ _ e p, asked-block _ _ _ _ e p, asked-passes _ _ _ _ (told-asked _ _ _ (late .before .before .sort-of .result) _ (late .ask-message .ensures 0 _) refl) passed)
+
+answered-requires-3 : tie.Need-answered-requires-3
+answered-requires-3 c κs = search needs
 
 same-length-5 : tie.Need-same-length-5
 same-length-5 c = search needs
@@ -81,7 +110,7 @@ same-length-6 c = search needs
 
 returns-3 : tie.Need-returns-3
 returns-3 c =
-    let done = c .before .before .before .before in
+    let done = c .before .before .before .before .before in
     let result = done .before .before .before in
     let head = result .before in
     let passed = head .before .before in
@@ -89,8 +118,9 @@ returns-3 c =
     let sort = late .before .before in
     let told = sort .before in
     let early = told .before .before in
-    open-passed _ _ _ _ _ _ (early .ask-areas .ensures) (told .enum-told .given .1) _ (sort .sort-of .ensures) (late .ask-message .ensures _ _)
-    (passed .enum-told2 .given .1) (result .result-after .ensures _ _ _ (sym (head .header-at .ensures .1))) (done .open-by .ensures _)
+    open-passed _ _ _ _ _ _ (early .ask-areas .ensures) (told .enum-told .given .1) _ (sort .sort-of .ensures) (late-in late)
+    (passed .enum-told2 .given .1) (result .result-after .result) (result .result-after .ensures _ _ _ (sym (head .header-at .ensures .1)))
+    (done .open-by .ensures _) (c .answered3 .ensures) refl
 
 pub open-spec : {M : Type 1} → statement M
 open-spec =
@@ -98,6 +128,7 @@ open-spec =
     (tie.spec
     ask-areas-requires
     enum-known-early
+    answered-requires
     same-length
     same-length-2
     returns
@@ -105,6 +136,7 @@ open-spec =
     sort-of-requires
     ask-message-requires
     enum-known-late
+    answered-requires-2
     same-length-3
     same-length-4
     returns-2
@@ -112,6 +144,7 @@ open-spec =
     header-at-requires
     result-after-requires
     open-by-requires
+    answered-requires-3
     same-length-5
     same-length-6
     returns-3)

@@ -12,23 +12,26 @@ use Rattle.pending.proofs.find.Statement.{statement}
 use Rattle.pending.proofs.find.Tie as tie
 
 abbrev Inv-loop : tie.InvT-loop
-Inv-loop area token n i₀ i = Sought (token .0) area i
+Inv-loop area n wanted i₀ i = Sought wanted area i
 
 abbrev μ-loop : tie.MeasureT-loop
-μ-loop area token n i₀ i = n - i
+μ-loop area n wanted i₀ i = n - i
 
 -- an entry that the loop comes to is one of the area's, and within it
-one-of : (c : tie.Else1 Inv-loop μ-loop) → c .before .loop .i < length (decode (c .before .before .before .before .before .args .area .now) .entries)
-one-of c = omega (arith, c .before .before .before .header-at .ensures .2)
+one-of : (c : tie.Else1 Inv-loop μ-loop) → c .before .loop .i < length (decode (c .before .before .before .before .before .before .args .area .now) .entries)
+one-of c = omega (arith, c .before .before .before .before .header-at .ensures .2)
 
-one-within : (c : tie.Else1 Inv-loop μ-loop) → 109 + 199 * (c .before .loop .i) + 199 ≤ length (c .before .before .before .before .before .args .area .now)
-one-within c = within _ (λ k. omega (arith, c .before .before .before .before .shared-slice-known .given k)) (c .before .before .before .before .before .pre) _ (one-of c)
+one-within : (c : tie.Else1 Inv-loop μ-loop) → 109 + 199 * (c .before .loop .i) + 199 ≤ length (c .before .before .before .before .before .before .args .area .now)
+one-within c = within _ (λ k. omega (arith, c .before .before .before .before .before .shared-slice-known .given k)) (c .before .before .before .before .before .before .pre) _ (one-of c)
 
 header-at-requires : tie.Need-header-at-requires Inv-loop μ-loop
 header-at-requires c κs = search needs
 
 cast-n : tie.Need-cast-n Inv-loop μ-loop
 cast-n c = search needs
+
+cast-wanted : tie.Need-cast-wanted Inv-loop μ-loop
+cast-wanted c = search needs
 
 loop-holds : tie.Need-loop-holds Inv-loop μ-loop
 loop-holds c = sought-start _ _
@@ -51,6 +54,9 @@ part-token-at-end c = omega (arith, one-within c)
 token-at-requires : tie.Need-token-at-requires Inv-loop μ-loop
 token-at-requires c κs = rw (part-rest, length-drop) (omega (arith, one-within (c .before)))
 
+cast-if2 : tie.Need-cast-if2 Inv-loop μ-loop
+cast-if2 c = search needs
+
 add-i : tie.Need-add-i Inv-loop μ-loop
 add-i c = omega arith
 
@@ -59,16 +65,16 @@ loop-less c = omega arith
 
 loop-again : tie.Need-loop-again Inv-loop μ-loop
 loop-again c =
-    let token = c .before .before .before in
+    let token = c .before .before in
     let step = token .before .before in
     sought-next _ _ _ (step .before .loop .inv) (one-of step) (token .token-at .ensures) refl (c .if2 .left)
 
 returns : tie.Need-returns Inv-loop μ-loop
-returns c = sought-end _ _ _ (c .before .loop .inv) (omega (arith, c .before .before .before .header-at .ensures .2))
+returns c = sought-end _ _ _ (c .before .loop .inv) (omega (arith, c .before .before .before .before .header-at .ensures .2))
 
 returns-2 : tie.Need-returns-2 Inv-loop μ-loop
 returns-2 c =
-    let token = c .before .before .before in
+    let token = c .before .before in
     let step = token .before .before in
     sought-at _ _ _ (step .before .loop .inv) (one-of step) (token .token-at .ensures) refl (c .if2 .taken)
 
@@ -80,6 +86,7 @@ find-spec =
     μ-loop
     header-at-requires
     cast-n
+    cast-wanted
     loop-holds
     mul-token-at
     add-token-at
@@ -87,6 +94,7 @@ find-spec =
     part-token-at-start
     part-token-at-end
     token-at-requires
+    cast-if2
     add-i
     loop-less
     loop-again

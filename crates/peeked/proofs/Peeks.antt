@@ -1,0 +1,33 @@
+-- What was peeked, by its case in the code.
+-- Assumes nothing.
+use mathlib.Core.Path.{_≡_, refl}
+use mathlib.Core.Bool.{false}
+use mathlib.Core.Option.{Option, some, none}
+use Prim.Native.Nat.{ℕ}
+use Rattle.session.specs.Event.{Info}
+use Rattle.session.specs.Given.{Message}
+use Rattle.session.specs.Builder.{Keyboard, fake}
+use Rattle.session.specs.Calls.{holds, moreComing}
+use Rattle.peeked.specs.Peeked.{asPeeked}
+use Rattle.peeked.specs.declared.Peeked.{Peeked}
+use Rattle.peeked.specs.declared.Peeked.the-variants as peek
+
+pub peeked-none : (p : Peeked) → p ≡ peek.Nothing → asPeeked p ≡ none
+unfolding asPeeked
+peeked-none p e = rw e refl
+
+pub peeked-some : (p : Peeked) (k w l : ℕ) → p ≡ peek.Message k w l → asPeeked p ≡ some (record { kind = k; wparam = w; lparam = l })
+unfolding asPeeked
+peeked-some p k w l e = rw e refl
+
+pub none-holds : (p : Option Message) → p ≡ none → false ≡ holds p
+unfolding holds
+none-holds p e = rw e refl
+
+pub none-more : (p : Option Message) → p ≡ none → false ≡ moreComing p
+unfolding moreComing
+none-more p e = rw e refl
+
+pub none-fake : (b : Keyboard) (n : Info) (p : Option Message) → p ≡ none → false ≡ fake b n p
+unfolding fake
+none-fake b n p e = rw e refl
