@@ -1,4 +1,4 @@
--- An entry, what an open message needs and the held press: what the tests on their bytes say, and so of entries one behind the other.
+-- An entry and the held press: what the tests on their bytes say, and so of entries one behind the other.
 -- Assumes nothing.
 use mathlib.Core.Path.{_≡_, refl, sym, ap, _∙_}
 use mathlib.Core.Bool.{Bool, true, false, _&&_}
@@ -8,96 +8,12 @@ use native.Mathlib.Nat.{sub-zero}
 use native.Mathlib.Omega.{arith}
 use lib.ListN.{length, take, drop, getD}
 use lib.Seq.{drop-drop, getD-drop}
-use borrow.Author.Tests.{eq-eqb, ne-eqb}
 use Rattle.area.specs.Zero.{allZero}
-use Rattle.area.proofs.Splice.{part-rest}
-use Rattle.session.specs.Codec.{Codec, byte, number, nothing, pair, checked, via, slot, either, getMany, okMany}
-use Rattle.session.specs.Area.{flag, event, info, held, pressed, wait, entry, heldField, INFO, WAIT, EVENT, HELD}
+use Rattle.session.specs.Codec.{Codec, number, nothing, pair, via, slot, either, okMany}
+use Rattle.session.specs.Area.{event, held, wait, entry, heldField, EVENT, HELD}
 use Rattle.session.proofs.Area.{entry-width}
 use Rattle.entryread.proofs.Walk.{next-place}
-use Rattle.sessioncheck.proofs.Texts.{stop, next}
-
--- ---- tests one after the other
-
--- the same of a test that was made, b
-pub stop-by : (p q : Bool) {r b : Bool} → r ≡ (p && q) → b ≡ p → b ≡ false → false ≡ r
-stop-by p q e f g = stop p q e (sym f ∙ g)
-
-pub next-by : (p q : Bool) {r b : Bool} → r ≡ (p && q) → b ≡ p → b ≡ true → r ≡ q
-next-by p q e f g = next p q e (sym f ∙ g)
-
--- a test of the rest from a on
-pub cut : (test : List ℕ → Bool) (a : ℕ) (l : List ℕ) {b : Bool} → b ≡ test (take (length l - a) (drop a l)) → b ≡ test (drop a l)
-cut test a l e = e ∙ ap test (part-rest a l)
-
--- ---- one of two, told apart by a byte
-
-module _ {A B : Type 0} (X : Codec A) (Y : Codec B) (l : List ℕ) where
-  is-left : getD l 0 0 ≡ 0 → either X Y .ok l ≡ X .ok (drop 1 l)
-  unfolding either
-  is-left e = rw (eq-eqb (getD l 0 0) 0 e)
-
-  is-right : getD l 0 0 ≡ 1 → either X Y .ok l ≡ Y .ok (drop 1 l)
-  unfolding either
-  is-right e = rw e
-
-  is-none : (getD l 0 0 ≡ 0 → ⊥) → (getD l 0 0 ≡ 1 → ⊥) → either X Y .ok l ≡ false
-  unfolding either
-  is-none a b = rw (ne-eqb (getD l 0 0) 0 a, ne-eqb (getD l 0 0) 1 b)
-
--- a value and zeros behind it
-slot-ok : {A : Type 0} (w m : ℕ) (X : Codec A) (l : List ℕ) → X .width ≡ m → slot w X .ok l ≡ (X .ok l && allZero (take (w - m) (drop m l)))
-unfolding slot
-slot-ok w m X l e = rw e
-
-blank : (w : ℕ) (l : List ℕ) → slot w nothing .ok l ≡ allZero (take w l)
-unfolding slot nothing
-blank w l = rw sub-zero
-
--- ---- what an open message needs
-
-press-width : pressed .width ≡ 5
-unfolding pressed via pair number byte flag checked
-press-width = refl
-
-module _ (l : List ℕ) where
-  module _ (a : getD l 0 0 ≡ 0) {b : Bool} (e : b ≡ pressed .ok (take (length l - 1) (drop 1 l))) where
-    a-press : wait .ok l ≡ (pressed .ok (drop 1 l) && allZero (take 64 (drop 6 l)))
-    unfolding wait via
-    a-press =
-        is-left (slot WAIT pressed) (either info (slot INFO nothing)) l a
-        ∙ slot-ok WAIT 5 pressed (drop 1 l) press-width
-        ∙ ap (λ (t : List ℕ). pressed .ok (drop 1 l) && allZero (take 64 t)) (drop-drop 5 1 l)
-
-    pub no-press : b ≡ false → false ≡ wait .ok l
-    no-press = stop-by _ _ a-press (cut (pressed .ok) 1 l e)
-
-    pub is-press : {z : Bool} → b ≡ true → z ≡ allZero (take 64 (drop 6 l)) → z ≡ wait .ok l
-    is-press h f = f ∙ sym (next-by _ _ a-press (cut (pressed .ok) 1 l e) h)
-
-  pub no-wait : (getD l 0 0 ≡ 0 → ⊥) → (getD l 0 0 ≡ 1 → ⊥) → false ≡ wait .ok l
-  unfolding wait via
-  no-wait a b = sym (is-none (slot WAIT pressed) (either info (slot INFO nothing)) l a b)
-
-  module _ (a : getD l 0 0 ≡ 1) where
-    behind : wait .ok l ≡ either info (slot INFO nothing) .ok (drop 1 l)
-    unfolding wait via
-    behind = is-right (slot WAIT pressed) (either info (slot INFO nothing)) l a
-
-    pub is-release : {b : Bool} → getD l 1 0 ≡ 0 → b ≡ info .ok (take (length l - 2) (drop 2 l)) → b ≡ wait .ok l
-    is-release c e =
-        cut (info .ok) 2 l e
-        ∙ sym (behind ∙ is-left info (slot INFO nothing) (drop 1 l) (getD-drop 1 l 0 0 ∙ c) ∙ ap (info .ok) (drop-drop 1 1 l))
-
-    pub is-character : {z : Bool} → getD l 1 0 ≡ 1 → z ≡ allZero (take 68 (drop 2 l)) → z ≡ wait .ok l
-    is-character c f =
-        f
-        ∙ sym (behind ∙ is-right info (slot INFO nothing) (drop 1 l) (getD-drop 1 l 0 0 ∙ c) ∙ blank INFO (drop 1 (drop 1 l)) ∙ ap (λ (t : List ℕ). allZero (take 68 t)) (drop-drop 1 1 l))
-
-    pub no-behind : (getD l 1 0 ≡ 0 → ⊥) → (getD l 1 0 ≡ 1 → ⊥) → false ≡ wait .ok l
-    no-behind b c =
-        let d = getD-drop 1 l 0 0 in
-        sym (behind ∙ is-none info (slot INFO nothing) (drop 1 l) (λ e. b (sym d ∙ e)) (λ e. c (sym d ∙ e)))
+use Rattle.recordcheck.proofs.Tests.{stop-by, next-by, cut, is-left, is-right, is-none, slot-ok, blank}
 
 -- ---- an entry
 

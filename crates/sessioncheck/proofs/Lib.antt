@@ -1,6 +1,3 @@
-mod Texts
-mod Keys
-mod Records
 mod Entries
 mod Order
 mod Whole

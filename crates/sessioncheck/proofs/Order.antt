@@ -20,7 +20,7 @@ use Rattle.session.specs.Codec.{number, pair, via, slot, left, right, either, g
 use Rattle.session.specs.Area.{wait, event, entry, entryOf}
 use Rattle.session.proofs.Area.{entry-width}
 use Rattle.entryread.proofs.Walk.{many-got, read-as}
-use Rattle.sessioncheck.proofs.Entries.{stop-by, next-by}
+use Rattle.recordcheck.proofs.Tests.{stop-by, next-by}
 
 -- ---- an entry that is read
 

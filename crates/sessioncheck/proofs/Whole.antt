@@ -22,7 +22,7 @@ use Rattle.session.specs.Codec.{Codec, number, nothing, pair, via, slot, left, 
 use Rattle.session.specs.Area.{flag, info, held, entry, fromHeld, heldField, session, decode, sessionOk}
 use Rattle.session.proofs.Codec.{many-count}
 use Rattle.session.proofs.Area.{held-field-width, entry-width}
-use Rattle.sessioncheck.proofs.Entries.{stop-by, next-by, cut}
+use Rattle.recordcheck.proofs.Tests.{stop-by, next-by, cut}
 use Rattle.sessioncheck.proofs.Order.{Ordered}
 
 -- ---- zeros behind zeros

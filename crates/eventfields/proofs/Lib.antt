@@ -1,0 +1,4 @@
+pub mod Place
+mod Fields
+mod Left
+pub mod Back

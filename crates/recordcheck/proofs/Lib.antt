@@ -1,0 +1,5 @@
+pub mod Tests
+mod Texts
+pub mod Keys
+pub mod Records
+mod Waits

@@ -1,0 +1,66 @@
+use borrow.Author.Tests.{not-true, not-false}
+use Rattle.recordcheck.proofs.Records.{info-repeat, info-location, info-key, info-end}
+use borrow.Author.Needs.{needs}
+use Rattle.recordcheck.proofs.info_ok.Statement.{statement}
+use Rattle.recordcheck.proofs.info_ok.Tie as tie
+
+shared-slice-read-if1 : tie.Need-shared-slice-read-if1
+shared-slice-read-if1 c = search needs
+
+returns : tie.Need-returns
+returns c = info-repeat _ (c .if1 .taken)
+
+shared-slice-read-if2 : tie.Need-shared-slice-read-if2
+shared-slice-read-if2 c = search needs
+
+returns-2 : tie.Need-returns-2
+returns-2 c = info-location _ (c .before .before .if1 .left) (c .if2 .taken)
+
+sub-key-ok : tie.Need-sub-key-ok
+sub-key-ok c = search needs
+
+part-key-ok-start : tie.Need-part-key-ok-start
+part-key-ok-start c = search needs
+
+part-key-ok-end : tie.Need-part-key-ok-end
+part-key-ok-end c = search needs
+
+key-ok-requires : tie.Need-key-ok-requires
+key-ok-requires c κs = search needs
+
+returns-3 : tie.Need-returns-3
+returns-3 c = info-key _ (c .before .before .before .before .before .if1 .left) (c .before .before .before .if2 .left) _ (c .before .key-ok .ensures) (not-true _ (c .if3 .taken))
+
+sub-key-ok-2 : tie.Need-sub-key-ok-2
+sub-key-ok-2 c = search needs
+
+part-key-ok-start-2 : tie.Need-part-key-ok-start-2
+part-key-ok-start-2 c = search needs
+
+part-key-ok-end-2 : tie.Need-part-key-ok-end-2
+part-key-ok-end-2 c = search needs
+
+key-ok-requires-2 : tie.Need-key-ok-requires-2
+key-ok-requires-2 c κs = search needs
+
+returns-4 : tie.Need-returns-4
+returns-4 c = info-end _ (c .before .before .before .before .before .before .before .if1 .left) (c .before .before .before .before .before .if2 .left) _ (c .before .before .before .key-ok .ensures) (not-false _ (c .before .before .if3 .left)) _ (c .key-ok2 .ensures)
+
+pub info-ok-spec : {M : Type 1} → statement M
+info-ok-spec =
+    tie.close
+    (tie.spec
+    shared-slice-read-if1
+    returns
+    shared-slice-read-if2
+    returns-2
+    sub-key-ok
+    part-key-ok-start
+    part-key-ok-end
+    key-ok-requires
+    returns-3
+    sub-key-ok-2
+    part-key-ok-start-2
+    part-key-ok-end-2
+    key-ok-requires-2
+    returns-4)
