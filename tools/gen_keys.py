@@ -150,7 +150,7 @@ def code_number_proof():
                       for i in range(1, len(CODE) + 1))
     return f'''-- `codenumber::code_number` meets its contract: a key code's place is its tag, and in each arm the tag is the arm's number.
 -- Assumes nothing.
-use Rattle.keycode.proofs.Codes.{{tagged}}
+use Rattle.keycode.proofs.Tags.{{tagged}}
 use Rattle.codenumber.proofs.code_number.Statement.{{statement}}
 use Rattle.codenumber.proofs.code_number.Tie as tie
 
@@ -199,22 +199,20 @@ code-at-spec =
 
 
 def each_code_proof():
-    return f'''-- What is checked of each key code by computing: its number leads back to it, is below the number of cases, and is the machine's tag.
+    return f'''-- What is checked of each key code by computing: its number leads back to it and is below the number of cases.
 -- Assumes nothing.
 use mathlib.Core.Path.{{_≡_, refl}}
 use mathlib.Core.Bool.{{true}}
 use lib.Dec.{{ltb}}
-use denote.Enum.Declared.{{tagOf, declared}}
 use Rattle.area.specs.Look.{{lookup}}
 use Rattle.keycode.specs.declared.KeyCode.{{KeyCode}}
 use Rattle.keycode.specs.declared.KeyCode.the-variants as kc
 use Rattle.keycode.specs.Number.{{codeCases, codeNumber, codeNative, codes, codeAt}}
-use Rattle.keycode.proofs.KeyCode as K
 
-pub each-code : (c : KeyCode) → (codeAt (codeNumber c) (codeNative c) ≡ c) × (ltb (codeNumber c) codeCases ≡ true) × (codeNumber c ≡ tagOf (declared K.enum) c)
+pub each-code : (c : KeyCode) → (codeAt (codeNumber c) (codeNative c) ≡ c) × (ltb (codeNumber c) codeCases ≡ true)
 unfolding codeNumber codeNative codeAt codes lookup
-each-code (kc.Unidentified held) = (refl, refl, refl)
-{lines(lambda i, c: f'each-code kc.{c} = (refl, refl, refl)', PLAIN)}'''
+each-code (kc.Unidentified held) = (refl, refl)
+{lines(lambda i, c: f'each-code kc.{c} = (refl, refl)', PLAIN)}'''
 
 
 def scan_code():

@@ -7,7 +7,6 @@ use Prim.Native.Nat.{ℕ, _-_, _<_, _≤_}
 use native.Mathlib.Omega.{arith}
 use lib.Dec.{eqb, ltb}
 use borrow.Author.Tests.{ltb-true, eqb-true, ne-eqb}
-use denote.Enum.Declared.{tagOf, declared}
 use Rattle.area.specs.Pick.{pick}
 use Rattle.area.specs.Look.{lookup}
 use Rattle.area.specs.Walk.{every}
@@ -20,7 +19,6 @@ use Rattle.keys.proofs.Numbers.{kind-none}
 use Rattle.keycode.specs.declared.KeyCode.{KeyCode}
 use Rattle.keycode.specs.declared.KeyCode.the-variants as kc
 use Rattle.keycode.specs.Number.{codeCases, codeNumber, codeNative, codes, codeAt}
-use Rattle.keycode.proofs.KeyCode as K
 use Rattle.keycode.proofs.EachCode.{each-code}
 
 pub code-back : (c : KeyCode) → codeAt (codeNumber c) (codeNative c) ≡ c
@@ -28,10 +26,6 @@ code-back c = each-code c .0
 
 pub code-below : (c : KeyCode) → codeNumber c < codeCases
 code-below c = ltb-true (codeNumber c) codeCases (each-code c .1)
-
--- a key code's place is the tag by which the machine tells it
-pub number-is-tag : (c : KeyCode) → codeNumber c ≡ tagOf (declared K.enum) c
-number-is-tag c = each-code c .2
 
 -- the keys of a table are all below m
 unfoldable below : {A : Type 0} → ℕ → List (ℕ × A) → Bool
@@ -82,10 +76,6 @@ module _ (held : NativeKeyCode) where
 
 pub native-plain : (c : KeyCode) → 0 < codeNumber c → codeNative c ≡ nat.Unidentified
 native-plain c h = sym (ap codeNative (code-back c)) ∙ native-other (codeNative c) (codeNumber c) h (code-below c)
-
--- what a match on a key code knows is its tag
-pub tagged : (x : KeyCode) {k : ℕ} → tagOf (declared K.enum) x ≡ k → k ≡ codeNumber x
-tagged x h = sym h ∙ sym (number-is-tag x)
 
 both : {A B : Type 0} (f : ℕ → B → A) {m n : ℕ} {p q : B} → m ≡ n → p ≡ q → f m p ≡ f n q
 both f {m} {n} {p} e g = ap (λ i. f i p) e ∙ ap (f n) g

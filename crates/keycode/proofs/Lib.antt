@@ -1,2 +1,3 @@
 pub mod EachCode
 pub mod Codes
+pub mod Tags

@@ -1,6 +1,6 @@
 -- `codenumber::code_number` meets its contract: a key code's place is its tag, and in each arm the tag is the arm's number.
 -- Assumes nothing.
-use Rattle.keycode.proofs.Codes.{tagged}
+use Rattle.keycode.proofs.Tags.{tagged}
 use Rattle.codenumber.proofs.code_number.Statement.{statement}
 use Rattle.codenumber.proofs.code_number.Tie as tie
 

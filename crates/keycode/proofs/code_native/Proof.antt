@@ -8,7 +8,8 @@ use native.Mathlib.Omega.{arith}
 use borrow.Author.Needs.{needs}
 use types.Run.{OneOf}
 use Rattle.keycode.specs.Number.{codeCases, codeNative}
-use Rattle.keycode.proofs.Codes.{number-is-tag, native-plain}
+use Rattle.keycode.proofs.Codes.{native-plain}
+use Rattle.keycode.proofs.Tags.{number-is-tag}
 use Rattle.keycode.proofs.code_native.Statement.{statement}
 use Rattle.keycode.proofs.code_native.Tie as tie
 
