@@ -1,6 +1,7 @@
 -- `charevent::last_text` meets its contract.
 -- Assumes nothing.
 use mathlib.Core.Path.{refl}
+use Rattle.area.proofs.Args.{args}
 use Rattle.charevent.proofs.Last.{from-layout, from-units}
 use Rattle.charevent.proofs.last_text.Statement.{statement}
 use Rattle.charevent.proofs.last_text.Tie as tie
@@ -36,7 +37,7 @@ returns c =
     let g = j .before in
     let m = g .before in
     let s = m .before .before .before in
-    (from-layout (s .args .block .now) (s .args .state .now) (s .args .h) _ _ _ _ _ (m .active-modifiers .ensures) (g .has-alt-graph .ensures) (j .control-counts .ensures) (refl, refl) (y .if1 .taken) _ _ (n .num-lock-on .ensures) (w .remove-only-ctrl .ensures) _ _ _ _ _ _ _ (k .layout-key .ensures .0) (c .key-text .ensures .0) (refl, refl, refl, refl, refl), c .key-text .ensures .1)
+    (from-layout (s .args .block .now) (s .args .state .now) (s .args .h) _ _ _ (args (j .control-counts) .0) _ (m .active-modifiers .ensures) (g .has-alt-graph .ensures) (j .control-counts .ensures) (refl, refl) (y .if1 .taken) _ _ (n .num-lock-on .ensures) (w .remove-only-ctrl .ensures) _ _ _ _ _ _ _ (k .layout-key .ensures .0) (c .key-text .ensures .0) (refl, refl, refl, refl, refl), c .key-text .ensures .1)
 
 typed-text-requires : tie.Need-typed-text-requires
 typed-text-requires c κs = c .before .before .before .before .before .before .before .pre .1
@@ -48,7 +49,7 @@ returns-2 c =
     let g = j .before in
     let m = g .before in
     let s = m .before .before .before in
-    (from-units (s .args .block .now) (s .args .state .now) (s .args .h) _ _ _ _ _ (m .active-modifiers .ensures) (g .has-alt-graph .ensures) (j .control-counts .ensures) (refl, refl) (y .if1 .left) _ _ _ (c .typed-text .ensures .0) (refl, refl), c .typed-text .ensures .1)
+    (from-units (s .args .block .now) (s .args .state .now) (s .args .h) _ _ _ (args (j .control-counts) .0) _ (m .active-modifiers .ensures) (g .has-alt-graph .ensures) (j .control-counts .ensures) (refl, refl) (y .if1 .left) _ _ _ (c .typed-text .ensures .0) (refl, refl), c .typed-text .ensures .1)
 
 pub last-text-spec : {M : Type 1} → statement M
 last-text-spec =
