@@ -19,7 +19,7 @@ use Rattle.session.specs.Focus.{focusEvents}
 use Rattle.session.specs.Session.{Wait, press, release, character, Entry, waiting, complete, Session, tokenOf}
 use Rattle.session.specs.Calls.{keyDown, keyUp, char, deadChar, ignored, focus, sortOf, Effect, nothingDone, opening, numbered, behind, charOpened, deadCharAnswered, messageEffect, holds, moreComing, finishEvent, finishHeld, findWait, inPlace, resolve, isFirst, drain, resolved, finishEffect, effectOf}
 use Rattle.session.specs.Questions.{opens, question6}
-use Rattle.session.specs.Book.{Arrival, Press, Note, Book, noteIn, heldPress, finishCharacter, bookMessage, bookFinish, bookStep}
+use Rattle.session.specs.Book.{Arrival, Press, Note, Book, noteIn, noteUnless, infoOf, heldPress, finishRelease, finishCharacter, bookMessage, bookFinish, bookStep}
 use Rattle.session.specs.declared.ElementState.{ElementState}
 
 -- ---- a call
@@ -181,6 +181,19 @@ pub last-some :
     (h : Press) (b : Book) (os : List Arrival) (n : ℕ) (i : Inputs) →
     finishCharacter false (some h) b os n i ≡ record { opened = os; held = none; count = b .count; noted = noteIn n (charEvent (keyboardOf i) (heldPress h)) (b .noted) }
 last-some h b os n i = last-noted h b os n i (charEvent (keyboardOf i) (heldPress h)) (noteIn n (charEvent (keyboardOf i) (heldPress h)) (b .noted)) refl refl
+
+-- k is the finish's keyboard: the block that the release's open brought has no say in whether it is fake
+release-by :
+    (b : Book) (os : List Arrival) (a : Arrival) (i : Inputs) (p : Option Message) (n : Info) (k : Keyboard) → infoOf (a .inputs) (a .message) ≡ n → keyboardOf i ≡ k →
+    finishRelease b os a i p ≡ record { opened = os; held = b .held; count = b .count; noted = noteUnless (fake k n p) (a .number) (releaseEvent n) (b .noted) }
+unfolding finishRelease
+release-by b os a i p n k e f = rw (e, f) refl
+
+pub release-booked :
+    (b : Book) (os : List Arrival) (a : Arrival) (i : Inputs) (p : Option Message) →
+    let n = infoOf (a .inputs) (a .message) in
+    finishRelease b os a i p ≡ record { opened = os; held = b .held; count = b .count; noted = noteUnless (fake (keyboardOf i) n p) (a .number) (releaseEvent n) (b .noted) }
+release-booked b os a i p = release-by b os a i p (infoOf (a .inputs) (a .message)) (keyboardOf i) refl refl
 
 -- ---- the queue
 

@@ -22,7 +22,7 @@ use Rattle.session.specs.Questions.{isToken, lastToken, question10, firs
 use Rattle.session.specs.Book.{Arrival, Press, Note, Book, pressKind, releaseKind, infoOf, pressOf, heldPress, heldIn, noteIn, noteAll, noteUnless, makesHeld, moreToCome, bookOpen, bookCharacter, bookDeadCharacter, bookFocus, bookMessage, finishPress, finishRelease, finishCharacter, bookFinish, bookStep}
 use Rattle.session.specs.Run.{pushed, popped, retoken}
 use Rattle.session.proofs.Lists.{All, all-map, all-append}
-use Rattle.session.proofs.Laws.{effect-brought, effect-finished, book-brought, book-finished, press-effect, release-effect, char-effect, dead-effect, focus-effect, ignored-effect, finish-found, resolved-first, resolved-later, event-press, event-release, event-none, event-char, held-press, held-release, held-none, held-char, last-more, last-none, last-some}
+use Rattle.session.proofs.Laws.{effect-brought, effect-finished, book-brought, book-finished, press-effect, release-effect, char-effect, dead-effect, focus-effect, ignored-effect, finish-found, resolved-first, resolved-later, event-press, event-release, event-none, event-char, held-press, held-release, held-none, held-char, last-more, last-none, last-some, release-booked}
 use Rattle.session.proofs.Queue.{Done, Stack, base, push, waitOf, entryOf, noteOf, eventOf, flat, dones, bottom, openedOf, tokensOf, handedOf, app, Wf, dones-below, flat-below, find-at, resolve-at, not-first, is-first, behind-at, last-at, drain-entries, note-all, tagged, entries-tagged, events-tagged, kept, entries-kept, noteOpt, note-kept, dones-app, tokens-app, opened-app, finish-wf, open-wf, behind-wf}
 use Rattle.session.proofs.Sorts.{bookBy, Called, book-sorted, called, held-alike, more-alike}
 
@@ -129,7 +129,7 @@ char-noted false (some h) b os n i pk e = rw (last-some h b os n i, event-char (
 book-finish :
     (b : Book) (os : List Arrival) (a : Arrival) (i : Inputs) (pk : Option Message) →
     bookFinish b i pk (a ∷ os) ≡ record { opened = os; held = heldNext (b .held) a i pk; count = b .count; noted = noteOpt (a .number) (finishEvent (keyboardOf i) (heldIn (b .held)) (waitOf a) pk) (b .noted) }
-unfolding bookFinish heldNext waitOf finishPress finishRelease
+unfolding bookFinish heldNext waitOf finishPress
 book-finish b os a i pk = go (pressKind (a .message .kind)) (releaseKind (a .message .kind)) refl refl
   where
     go : (x y : Bool) → pressKind (a .message .kind) ≡ x → releaseKind (a .message .kind) ≡ y →
@@ -137,7 +137,7 @@ book-finish b os a i pk = go (pressKind (a .message .kind)) (releaseKind (a .mes
     go true y e f =
         rw (e, event-press, held-alike pk)
         (press-noted (makesHeld pk) (fake (keyboardOf i) (infoOf i (a .message)) pk) os (some (record { inputs = i; message = a .message; units = [] })) (b .count) (a .number) (pressEvent (pressOf i (a .message))) (b .noted))
-    go false true e f = rw (e, f, event-release, release-noted (fake (keyboardOf i) (infoOf (a .inputs) (a .message)) pk) (a .number) (releaseEvent (infoOf (a .inputs) (a .message))) (b .noted))
+    go false true e f = rw (e, f, release-booked, event-release, release-noted (fake (keyboardOf i) (infoOf (a .inputs) (a .message)) pk) (a .number) (releaseEvent (infoOf (a .inputs) (a .message))) (b .noted))
     go false false e f = rw (e, f) (char-noted (moreToCome pk) (b .held) b os (a .number) i pk (more-alike pk))
 
 held-made : (i : Inputs) (m : Message) → heldPress (record { inputs = i; message = m; units = [] }) ≡ pressOf i m
