@@ -20,9 +20,9 @@ use Rattle.session.specs.Answers.{openSaid}
 use Rattle.session.specs.declared.ElementState.{ElementState}
 use Rattle.session.specs.declared.OpenAnswer.the-variants.{OpenedNone}
 use Rattle.session.proofs.Fits.{dead-fits}
-use Rattle.queue.specs.Room.{IsArea, HasRoom}
-use Rattle.queue.proofs.Areas.{AreaOf, own-area, room-of}
-use Rattle.queue.proofs.HeldPress.{keep-area}
+use Rattle.sessionarea.specs.Room.{IsArea, HasRoom}
+use Rattle.sessionarea.proofs.Areas.{AreaOf, own-area, room-of}
+use Rattle.sessionarea.proofs.HeldPress.{keep-area}
 use Rattle.focus.specs.Written.{keyboardAt}
 use Rattle.opening.specs.Gives.{Gives}
 

@@ -10,7 +10,7 @@ ghost use Rattle.session.specs.Calls.{deadCharAnswered, behind};
 ghost use Rattle.session.specs.Focus.{focusEvents};
 ghost use Rattle.session.specs.Questions.{isHeld, behindSome};
 ghost use Rattle.focus.specs.Written.{keyboardAt};
-ghost use Rattle.queue.specs.Room.{IsArea, HasRoom};
+ghost use Rattle.sessionarea.specs.Room.{IsArea, HasRoom};
 ghost use Rattle.opening.specs.Gives.{Gives};
 use session::ElementState;
 use session::OpenAnswer;
@@ -23,7 +23,7 @@ pub fn answer_dead_char(session: &mut [u8], answers: &mut [u8]) -> OpenAnswer
     let h = entryread::header_at(session);
     let held = recordread::held_at(&session[3..]);
     let e = keyevent::dead_char_event(held);
-    queue::keep_held(session, false);
+    heldpress::keep_held(session, false);
     if h.count == 0 { // before the dead character
         answers::one_event(answers, e);
         return OpenAnswer::OpenedNone;
@@ -45,7 +45,7 @@ pub fn answer_focus(
     ensures { λ r. ⌜ Gives (behind (decode (now (session .entry))) (focusEvents (keyboardAt (now (block .entry)) (now (state .entry))) st) (decode (now (session .entry)) .held) (decode (now (session .entry)) .entries)) r (now (session .exit)) (now (answers .exit)) ⌝ }
 {
     let h = entryread::header_at(session);
-    queue::keep_held(session, true);
+    heldpress::keep_held(session, true);
     if h.count == 0 { // before the focus change
         synthesize::hand_out_focus(answers, block, state, st);
         return OpenAnswer::OpenedNone;

@@ -19,7 +19,7 @@ pub fn put_event_at(answers: &mut [u8], i: usize, e: KeyEvent)
     requires { ⌜ (length (now answers) ≡ AREA) × (i < ENTRIES-MOST) × EventLens e ⌝ }
     ensures { λ _. ⌜ now (answers .exit) ≡ splice (2 + 196 * i) (event .put (asEvent e)) (now (answers .entry)) ⌝ }
 {
-    recordwrite::put_event(answers, 2 + 196 * i, e);
+    eventwrite::put_event(answers, 2 + 196 * i, e);
 }
 
 // The number of events, and zeros behind the last.

@@ -263,7 +263,7 @@ fn run(what: u8, block: &mut [u8], rounds: u64) {
     let mut session = io::large_buffer();
     let mut answers = io::large_buffer();
     let state = [0u8; 256];
-    entrywrite::fresh(&mut session);
+    headerwrite::fresh(&mut session);
     let count = counted_of(what, &mut session, &mut answers, &state, block, rounds);
     show_count(count, &session);
 }

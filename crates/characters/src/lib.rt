@@ -22,17 +22,12 @@ pub fn finish_character(
     ensures { λ _. ⌜ Does (finishEffect (decode (now (session .entry))) (keyboardAt (now (block .entry)) (now (state .entry))) (token .0) (asPeeked peeked) (findWait (token .0) (decode (now (session .entry)) .entries))) (now (session .exit)) (now (answers .exit)) ⌝ }
 {
     let head = entryread::header_at(session);
-    let held = head.held;
-    if !held {
-        drain::remove_pending(session, answers, place, token);
+    if peeked::completes(head.held, peeked) {
+        let h = recordread::held_at(&session[3..]);
+        let e = charevent::char_event(block, state, h);
+        heldpress::keep_held(session, false);
+        drain::complete_pending(session, answers, place, token, e);
         return;
     }
-    if peeked::more_coming(peeked) {
-        drain::remove_pending(session, answers, place, token);
-        return;
-    }
-    let h = recordread::held_at(&session[3..]);
-    let e = charevent::char_event(block, state, h);
-    queue::keep_held(session, false);
-    drain::complete_pending(session, answers, place, token, e);
+    drain::remove_pending(session, answers, place, token);
 }

@@ -19,10 +19,10 @@ use Rattle.session.specs.Calls.{Sort, char}
 use Rattle.session.specs.Focus.{focusEvents}
 use Rattle.session.specs.Questions.{isHeld, behindSome, newEntries, unitsAfter, question5, question7, question8, question9}
 use Rattle.session.specs.declared.ElementState.{ElementState}
-use Rattle.queue.specs.Room.{IsArea, HasRoom}
-use Rattle.questions.specs.Asked.{asSort}
-use Rattle.questions.specs.declared.MessageSort.{MessageSort}
-use Rattle.questions.specs.declared.MessageSort.the-variants as sort
+use Rattle.sessionarea.specs.Room.{IsArea, HasRoom}
+use Rattle.sorts.specs.Sorts.{asSort}
+use Rattle.sorts.specs.declared.MessageSort.{MessageSort}
+use Rattle.sorts.specs.declared.MessageSort.the-variants as sort
 use Rattle.opening.specs.Gives.{MayChar}
 use Rattle.dispatch.specs.Passes.{Passes}
 

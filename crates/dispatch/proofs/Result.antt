@@ -11,9 +11,9 @@ use Rattle.session.specs.Answers.{resultBy, zeroResult}
 use Rattle.session.specs.declared.ElementState.{ElementState}
 use Rattle.session.specs.declared.ProcResult.{ProcResult}
 use Rattle.session.specs.declared.ProcResult.the-variants.{DefWindowProc, Value}
-use Rattle.questions.specs.Asked.{asSort}
-use Rattle.questions.specs.declared.MessageSort.{MessageSort}
-use Rattle.questions.specs.declared.MessageSort.the-variants as sort
+use Rattle.sorts.specs.Sorts.{asSort}
+use Rattle.sorts.specs.declared.MessageSort.{MessageSort}
+use Rattle.sorts.specs.declared.MessageSort.the-variants as sort
 
 module _ (k : MessageSort) (s : Session) (m : Message) (r : ProcResult) where
   pub of-sys-press : k ≡ sort.KeyDown → m .kind ≡ WM-SYSKEYDOWN → DefWindowProc ≡ resultBy (asSort k) s m r

@@ -15,11 +15,11 @@ use Rattle.session.specs.Answers.{openSaid, noToken}
 use Rattle.session.specs.declared.ElementState.{ElementState}
 use Rattle.session.specs.declared.OpenAnswer.{OpenAnswer}
 use Rattle.session.proofs.Laws.{press-effect, release-effect, char-effect, dead-effect, focus-effect, ignored-effect}
-use Rattle.queue.specs.Room.{IsArea}
-use Rattle.queue.proofs.Areas.{own-area}
-use Rattle.questions.specs.Asked.{asSort}
-use Rattle.questions.specs.declared.MessageSort.{MessageSort}
-use Rattle.questions.specs.declared.MessageSort.the-variants as sort
+use Rattle.sessionarea.specs.Room.{IsArea}
+use Rattle.sessionarea.proofs.Areas.{own-area}
+use Rattle.sorts.specs.Sorts.{asSort}
+use Rattle.sorts.specs.declared.MessageSort.{MessageSort}
+use Rattle.sorts.specs.declared.MessageSort.the-variants as sort
 use Rattle.opening.specs.Gives.{Gives}
 
 -- what was opened or answered, asked of this very message: w and l are its parameters

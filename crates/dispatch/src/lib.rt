@@ -11,13 +11,13 @@ ghost use Rattle.session.specs.Calls.{messageEffect};
 ghost use Rattle.session.specs.Questions.{isHeld};
 ghost use Rattle.session.specs.Answers.{resultBy};
 ghost use Rattle.focus.specs.Written.{keyboardAt};
-ghost use Rattle.queue.specs.Room.{IsArea};
-ghost use Rattle.questions.specs.Asked.{asSort};
+ghost use Rattle.sessionarea.specs.Room.{IsArea};
+ghost use Rattle.sorts.specs.Sorts.{asSort};
 ghost use Rattle.opening.specs.Gives.{Gives};
 ghost use Rattle.dispatch.specs.Passes.{Passes};
-use questions::MessageSort;
 use session::OpenAnswer;
 use session::ProcResult;
+use sorts::MessageSort;
 
 pub fn open_by(
     session: &mut [u8],

@@ -21,8 +21,8 @@ use Rattle.session.proofs.Codec.{All}
 use Rattle.session.proofs.Area.{EntryFits, event-sound, event-width}
 use Rattle.session.proofs.Writes.{entry-over, many-one}
 use Rattle.entryread.proofs.Walk.{entry-at, read-as}
-use Rattle.queue.specs.Room.{IsArea}
-use Rattle.queue.proofs.Kept.{kept}
+use Rattle.sessionarea.specs.Room.{IsArea}
+use Rattle.sessionarea.proofs.Kept.{kept}
 
 -- ---- parts of a list
 

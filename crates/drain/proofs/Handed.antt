@@ -21,9 +21,9 @@ use Rattle.session.specs.Area.{event, encode, decode, encodeAnswer}
 use Rattle.session.specs.Calls.{inPlace, resolve, isFirst, drain, resolved}
 use Rattle.session.proofs.Area.{EntryFits, event-sound, event-width}
 use Rattle.session.proofs.Writes.{Handing}
-use Rattle.queue.specs.Room.{IsArea}
-use Rattle.queue.proofs.Kept.{kept}
-use Rattle.pending.specs.Place.{placeIn}
+use Rattle.sessionarea.specs.Room.{IsArea}
+use Rattle.sessionarea.proofs.Kept.{kept}
+use Rattle.sessionarea.specs.Place.{placeIn}
 use Rattle.answers.proofs.Closed.{ended}
 use Rattle.drain.proofs.Copied.{all-drop, each}
 use Rattle.drain.proofs.Drained.{drain-most, drain-fit}

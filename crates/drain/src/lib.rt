@@ -13,8 +13,8 @@ ghost use Rattle.session.specs.Codec.{putMany};
 ghost use Rattle.session.specs.Area.{event, encode, decode, encodeAnswer};
 ghost use Rattle.session.specs.Calls.{drain, isFirst, resolved};
 ghost use Rattle.session.specs.Types.{asEvent, EventLens};
-ghost use Rattle.queue.specs.Room.{IsArea};
-ghost use Rattle.pending.specs.Place.{placeIn};
+ghost use Rattle.sessionarea.specs.Room.{IsArea};
+ghost use Rattle.sessionarea.specs.Place.{placeIn};
 use session::KeyEvent;
 use session::PendingMessageToken;
 
@@ -63,11 +63,11 @@ pub fn complete_pending(
         answers::put_event_at(answers, 0, e);
         let n = drain_pending(area, 1, answers, 1);
         answers::close(answers, n);
-        pending::restart(area);
+        settling::restart(area);
         return;
     }
     answers::no_events(answers);
-    pending::complete(area, place, token, e);
+    settling::complete(area, place, token, e);
 }
 
 // The entry at a place, which carries the token, dropped.
@@ -78,9 +78,9 @@ pub fn remove_pending(area: &mut [u8], answers: &mut [u8], place: usize, token: 
     if place == 0 {
         let n = drain_pending(area, 1, answers, 0);
         answers::close(answers, n);
-        pending::restart(area);
+        settling::restart(area);
         return;
     }
     answers::no_events(answers);
-    pending::remove(area, place, token);
+    settling::remove(area, place, token);
 }

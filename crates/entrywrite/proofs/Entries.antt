@@ -1,32 +1,26 @@
--- The bytes of an entry and of the held field, part by part.
+-- The bytes of an entry, part by part.
 -- Assumes nothing.
 use mathlib.Core.Path.{_≡_, refl, sym, ap, _∙_}
 use mathlib.Core.List.{List, [], _∷_, _++_, append-assoc}
-use mathlib.Core.Option.{some, none}
 use Prim.Native.Nat.{ℕ, suc, _+_, _-_, _≤_}
-use native.Mathlib.Nat.{sub-zero}
 use native.Mathlib.Omega.{arith}
 use lib.ListN.{length, replicate, length-append, length-replicate, replicate-append-replicate}
 use Rattle.area.specs.Bytes.{le}
 use Rattle.area.specs.Splice.{splice, padded}
 use Rattle.area.proofs.Bytes.{length-le}
+use Rattle.area.proofs.Splice.{padded-none}
 use Rattle.keystroke.specs.declared.KeyLParam.{KeyLParam}
 use Rattle.session.specs.Codec.{number, nothing, pair, via, slot, either}
-use Rattle.session.specs.Event.{Info, Event, Held}
+use Rattle.session.specs.Event.{Info, Event}
 use Rattle.session.specs.Session.{press, release, character, waiting, complete}
-use Rattle.session.specs.Area.{pressed, info, INFO, WAIT, EVENT, HELD, event, wait, entry, held, heldField}
-use Rattle.session.specs.Types.{asInfo, asEvent, asHeld, InfoLens}
+use Rattle.session.specs.Area.{pressed, info, INFO, WAIT, EVENT, event, wait, entry}
+use Rattle.session.specs.Types.{asInfo, asEvent, InfoLens}
 use Rattle.session.specs.declared.KeyEvent.{KeyEvent}
 use Rattle.session.specs.declared.PartialKeyEventInfo.{PartialKeyEventInfo}
-use Rattle.session.specs.declared.HeldPress.{HeldPress}
-use Rattle.recordwrite.proofs.Parts.{meet}
+use Rattle.fieldwrite.proofs.Parts.{meet}
 use Rattle.recordwrite.proofs.Records.{info-length, pressed-length}
 
 -- ---- zeros
-
-zeros-put : (n : ℕ) → padded n [] ≡ replicate n 0
-unfolding padded
-zeros-put n = rw sub-zero
 
 -- zeros behind zeros
 more-zeros : (w m : ℕ) (p : List ℕ) → length p + m ≤ w → padded w (p ++ replicate m 0) ≡ p ++ replicate (w - length p) 0
@@ -65,7 +59,7 @@ release-put t n h =
 character-put : (t : ℕ) → entry .put (waiting t character) ≡ le 2 t ++ (0 ∷ 1 ∷ 1 ∷ replicate 194 0)
 unfolding entry via pair number either slot wait nothing
 character-put t =
-    ap (λ (r : List ℕ). le 2 t ++ (0 ∷ padded EVENT (1 ∷ 1 ∷ r))) (zeros-put INFO)
+    ap (λ (r : List ℕ). le 2 t ++ (0 ∷ padded EVENT (1 ∷ 1 ∷ r))) (padded-none INFO)
     ∙ ap (λ (r : List ℕ). le 2 t ++ (0 ∷ r)) (more-zeros EVENT INFO (1 ∷ 1 ∷ []) (omega arith))
 
 complete-put : (t : ℕ) (e : Event) → entry .put (complete t e) ≡ le 2 t ++ (1 ∷ event .put e)
@@ -123,26 +117,3 @@ pub complete-written :
 complete-written t e at x {u} {a} {k₁} {k₂} {m} p₁ p₂ p₃ eu ea em f₁ f₂ =
     marked t at x u a k₁ k₂ (event .put (asEvent m)) p₁ p₂ p₃ eu f₁ f₂
     ∙ rw (ea, em) (sym (ap (λ (r : List ℕ). splice at r x) (complete-put t (asEvent e))))
-
--- ---- the held field
-
-some-put : (h : Held) → heldField .put (some h) ≡ 1 ∷ held .put h
-unfolding heldField via either
-some-put h = refl
-
-pub some-written :
-    (h : HeldPress) (at : ℕ) (x : List ℕ) {a k₁ : ℕ} {m : HeldPress} {y₁ y₂ : List ℕ} → y₁ ≡ splice at (a ∷ []) x →
-    y₂ ≡ splice k₁ (held .put (asHeld m)) y₁ → a ≡ 1 → m ≡ h → k₁ ≡ at + 1 →
-    y₂ ≡ splice at (heldField .put (some (asHeld h))) x
-some-written h at x {a} {k₁} {m} p₁ p₂ ea em f₁ =
-    meet at 1 k₁ (a ∷ []) (held .put (asHeld m)) x refl f₁ p₁ p₂
-    ∙ rw (ea, em) (sym (ap (λ (r : List ℕ). splice at r x) (some-put (asHeld h))))
-
-none-put : heldField .put none ≡ replicate (1 + HELD) 0
-unfolding heldField via either slot nothing
-none-put = ap (λ (r : List ℕ). 0 ∷ r) (zeros-put HELD)
-
-pub none-written :
-    (at : ℕ) (x : List ℕ) {k : ℕ} {zs y : List ℕ} → y ≡ splice k zs x → zs ≡ replicate (1 + HELD) 0 → k ≡ at →
-    y ≡ splice at (heldField .put none) x
-none-written at x p e f = p ∙ rw (e, f) (sym (ap (λ (r : List ℕ). splice at r x) none-put))

@@ -1,22 +1,15 @@
-// Writes the entries of the queue, the held press or its absence, and a fresh area. docs/AREAS.md has their offsets.
+// Writes the entries of the queue: each its token, what it holds, zeros behind. docs/AREAS.md has their offsets.
 ghost use mathlib.Core.Path.{_≡_};
-ghost use mathlib.Core.Option.{some, none};
 ghost use Prim.Native.Nat.{_+_, _≤_, _<_};
-ghost use lib.Dec.{eqb};
 ghost use lib.ListN.{length};
-ghost use Rattle.area.specs.Pick.{pick};
 ghost use Rattle.area.specs.Splice.{splice};
-ghost use Rattle.session.specs.Limits.{AREA, UNITS-MOST};
-ghost use Rattle.session.specs.Session.{press, release, character, waiting, complete, freshSession};
-ghost use Rattle.session.specs.Area.{entry, heldField, encode};
-ghost use Rattle.session.specs.Types.{asEvent, asInfo, asHeld, EventLens, InfoLens};
+ghost use Rattle.session.specs.Session.{press, release, character, waiting, complete};
+ghost use Rattle.session.specs.Area.{entry};
+ghost use Rattle.session.specs.Types.{asEvent, asInfo, EventLens, InfoLens};
 use keystroke::KeyLParam;
-use session::HeldPress;
 use session::KeyEvent;
 use session::PartialKeyEventInfo;
 use session::PendingMessageToken;
-
-// ---- an entry: its token, what it holds, zeros behind
 
 pub fn put_press(s: &mut [u8], at: usize, token: PendingMessageToken, vkey: u16, l: KeyLParam)
     requires { ⌜ (at + 199 ≤ length (now s)) × (token .0 < 65536) ⌝ }
@@ -58,35 +51,5 @@ pub fn put_complete(s: &mut [u8], at: usize, token: PendingMessageToken, e: KeyE
 {
     area::put_u16(s, at, token.0 as u16);
     area::put_u8(s, at + 2, 1);
-    recordwrite::put_event(s, at + 3, e);
-}
-
-// ---- the held press
-
-pub fn put_some_held(s: &mut [u8], at: usize, h: HeldPress)
-    requires { ⌜ (at + 105 ≤ length (now s)) × InfoLens (h .info) × (h .len ≤ UNITS-MOST) ⌝ }
-    ensures { λ _. ⌜ now (s .exit) ≡ splice at (heldField .put (some (asHeld h))) (now (s .entry)) ⌝ }
-{
-    area::put_u8(s, at, 1);
-    recordwrite::put_held(s, at + 1, h);
-}
-
-pub fn put_no_held(s: &mut [u8], at: usize)
-    requires { ⌜ at + 105 ≤ length (now s) ⌝ }
-    ensures { λ _. ⌜ now (s .exit) ≡ splice at (heldField .put none) (now (s .entry)) ⌝ }
-{
-    span::put_zeros(s, at, 105);
-}
-
-// ---- a fresh session
-
-// Makes the area that of a fresh session, and says so; an area of another size is left as it is.
-pub fn fresh(area: &mut [u8]) -> bool
-    ensures { λ r. ⌜ (r ≡ eqb (length (now (area .entry))) AREA) × (now (area .exit) ≡ pick (eqb (length (now (area .entry))) AREA) (encode freshSession) (now (area .entry))) ⌝ }
-{
-    if area.len() != 65536 {
-        return false;
-    }
-    span::fill_zero(area, 0);
-    true
+    eventwrite::put_event(s, at + 3, e);
 }

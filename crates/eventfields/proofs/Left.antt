@@ -18,7 +18,8 @@ use Rattle.area.proofs.Splice.{splice-eq, part-length, part-rest, Written, writ
 use Rattle.session.specs.Limits.{TEXT-MOST}
 use Rattle.session.specs.Event.{Event}
 use Rattle.session.specs.Area.{event}
-use Rattle.eventfields.specs.Events.{NONE, FIELDS, place, isEvent, eventAt, fieldsOf, fieldsLeft, textOf, textAt, textLeft, textPlace}
+use Rattle.answernumber.specs.Numbers.{NONE}
+use Rattle.eventfields.specs.Events.{FIELDS, place, isEvent, eventAt, fieldsOf, fieldsLeft, textOf, textAt, textLeft, textPlace}
 use Rattle.eventfields.proofs.Place.{Within, event-is}
 use Rattle.eventfields.proofs.Fields.{text-read}
 

@@ -18,6 +18,7 @@ use Rattle.keycode.specs.Number.{codeNumber, codeNative}
 use Rattle.session.specs.Limits.{AREA, ENTRIES-MOST, TEXT-MOST}
 use Rattle.session.specs.Event.{Event}
 use Rattle.session.specs.Area.{flagNumber, stateNumber, bytesOf, event, EVENT}
+use Rattle.answernumber.specs.Numbers.{NONE}
 
 -- an answer area's size, and a number of events that it has room for
 unfoldable pub isAnswer : List ℕ → Bool
@@ -36,10 +37,6 @@ unfoldable pub eventAt : List ℕ → ℕ → Option Event
 eventAt x i = pick (isEvent x i) (some (event .get (drop (place i) x))) none
 
 -- ---- an event as numbers
-
--- stands for a number that there is not
-abbrev pub NONE : ℕ
-NONE = 4294967295
 
 -- how many numbers
 abbrev pub FIELDS : ℕ

@@ -7,6 +7,7 @@ ghost use lib.ListN.{length};
 ghost use Rattle.area.specs.Pick.{pick};
 ghost use Rattle.session.specs.Area.{event};
 ghost use Rattle.eventfields.specs.Events.{FIELDS, isAnswer, isEvent, eventAt, fieldsOf, fieldsLeft, textPlace, textAt, textLeft};
+use answernumber::NONE;
 
 // ---- the area
 
@@ -114,9 +115,6 @@ fn text_place(which: u32) -> usize
         _ => 171,
     }
 }
-
-// Stands for a number that there is not.
-pub const NONE: u32 = 0xffff_ffff;
 
 // A text of event i, copied to the front of `text`: its length. Where there is no such text, or less room than a text may need: no number,
 // and the bytes stay as they are.

@@ -27,8 +27,9 @@ use Rattle.session.specs.declared.ProcResult.the-variants.{DefWindowProc, Value
 use Rattle.peeked.specs.Peeked.{asPeeked}
 use Rattle.peeked.specs.declared.Peeked.the-variants as p
 use Rattle.message.specs.Calls.{left}
-use Rattle.eventfields.specs.Events.{NONE, isAnswer, eventAt, fieldsLeft, textAt, textLeft}
-use Rattle.export.specs.Interface.{refusalOf, tokenOf, changed, OpenSays, FinishSays, changeOf, peekedAs, countOf}
+use Rattle.answernumber.specs.Numbers.{NONE, refusalOf, tokenOf, changed, changeOf}
+use Rattle.eventfields.specs.Events.{isAnswer, eventAt, fieldsLeft, textAt, textLeft}
+use Rattle.export.specs.Interface.{OpenSays, FinishSays, peekedAs, countOf}
 
 -- ---- the message result
 
@@ -43,15 +44,6 @@ change-most (Value v) = go (eqb (ofZ w64 v) 0)
     go : (b : Bool) → pick b 2 0 ≤ 2
     go true = omega arith
     go false = omega arith
-
--- the number of a value whose bits the code found to be 0, or not to be
-pub set-zero : {r : ProcResult} {v : ℤ} → r ≡ Value v → ofZ w64 v ≡ 0 → 2 ≡ changeOf r
-unfolding changeOf
-set-zero {r} {v} a b = rw (a, eq-eqb (ofZ w64 v) 0 b)
-
-pub set-none : {r : ProcResult} {v : ℤ} → r ≡ Value v → (ofZ w64 v ≡ 0 → ⊥) → 0 ≡ changeOf r
-unfolding changeOf
-set-none {r} {v} a b = rw (a, ne-eqb (ofZ w64 v) 0 b)
 
 by-sort : (k : Sort) (s : Session) (m : Message) (was : ProcResult) → changed (changeOf (resultBy k s m passed)) was ≡ resultBy k s m was
 unfolding changed changeOf resultBy lookup
@@ -87,12 +79,12 @@ module _ (x y : List ℕ) (i : Inputs) (m : Message) where
   open-left was =
       by-outcome (outcomeOf x y (brought i m)) x y was (resultBy (sortOf m) (decode x) m passed) (resultBy (sortOf m) (decode x) m was) (by-sort (sortOf m) (decode x) m was)
 
-  -- v is the value that was passed
+  -- v is the value that was passed, m′ the message
   pub open-says :
-      {v : ℤ} {d : Said} {r : ProcResult} {s t : List ℕ} → left d r s t ≡ openOf x y (Value v) i m → v ≡ pos 1 →
+      {v : ℤ} {m′ : Message} {d : Said} {r : ProcResult} {s t : List ℕ} → left d r s t ≡ openOf x y (Value v) i m′ → v ≡ pos 1 → m′ ≡ m →
       {n k c : ℕ} → n ≡ refusalOf d → k ≡ tokenOf d → c ≡ changeOf r → (was : ProcResult) → OpenSays n k c s t (openOf x y was i m) was
-  open-says {v} {d} {r} {s} {t} f ev en ek ec was =
-      let e : left d r s t ≡ openOf x y passed i m = rw ev at f in
+  open-says {v} {m′} {d} {r} {s} {t} f ev em en ek ec was =
+      let e : left d r s t ≡ openOf x y passed i m = rw (ev, em) at f in
       rw (en, ek, ec) (
       subst (λ (l : Left). OpenSays (refusalOf (l .said)) (tokenOf (l .said)) (changeOf (l .result)) (l .session) (l .answers) (openOf x y was i m) was) (sym e) (open-left was))
 
@@ -117,12 +109,24 @@ pub a-peek : (present kind wparam lparam : ℕ) → (present ≡ 0 → ⊥) → 
 unfolding asPeeked peekedAs
 a-peek present kind wparam lparam e = rw (ne-eqb present 0 e)
 
--- ---- a fresh session, and an event that is read: r is what the call below said
+-- ---- 0 or 1, by what the call below said
 
-pub made :
-    (x : List ℕ) {r : Bool} {z : List ℕ} {n : ℕ} → (r ≡ eqb (length x) AREA) × (z ≡ pick (eqb (length x) AREA) (encode freshSession) x) → n ≡ pick r 0 1 →
-    (n ≡ pick (eqb (length x) AREA) 0 1) × (z ≡ pick (eqb (length x) AREA) (encode freshSession) x)
-made x e en = (en ∙ ap (λ (b : Bool). pick b 0 1) (e .0), e .1)
+pub done : {r : Bool} {n : ℕ} → r ≡ true → n ≡ 0 → n ≡ pick r 0 1
+done h e = rw (h, e)
+
+pub undone : {r : Bool} {n : ℕ} → r ≡ false → n ≡ 1 → n ≡ pick r 0 1
+undone h e = rw (h, e)
+
+-- ---- a fresh session, by what the call below said: r
+
+module _ (x : List ℕ) {r : Bool} (e : r ≡ eqb (length x) AREA) where
+  pub made : r ≡ true → _≡_ {A = ℕ} (pick (eqb (length x) AREA) 0 1) 0
+  made h = rw (← e, h)
+
+  pub not-made : r ≡ false → _≡_ {A = ℕ} (pick (eqb (length x) AREA) 0 1) 1
+  not-made h = rw (← e, h)
+
+-- ---- an event that is read: r is what the call below said
 
 -- of event j
 pub was-read :

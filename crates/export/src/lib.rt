@@ -8,26 +8,18 @@ ghost use Rattle.area.specs.Pick.{pick};
 ghost use Rattle.session.specs.Limits.{AREA};
 ghost use Rattle.session.specs.Session.{freshSession};
 ghost use Rattle.session.specs.Area.{encode};
-ghost use Rattle.session.specs.Answers.{refusalNumber, openSaid, finishSaid, openOf, finishOf};
+ghost use Rattle.session.specs.Answers.{openOf, finishOf};
 ghost use Rattle.session.specs.declared.ProcResult.{ProcResult};
 ghost use Rattle.peeked.specs.Peeked.{asPeeked};
 ghost use Rattle.message.specs.Calls.{inputs, message};
 ghost use Rattle.eventfields.specs.Events.{eventAt, fieldsLeft, textAt, textLeft};
-ghost use Rattle.export.specs.Interface.{refusalOf, tokenOf, OpenSays, FinishSays, changeOf, peekedAs, countOf};
-use eventfields::NONE;
+ghost use Rattle.export.specs.Interface.{OpenSays, FinishSays, peekedAs, countOf};
+use answernumber::NONE;
 use peeked::Peeked;
 use session::FinishAnswer;
 use session::OpenAnswer;
 use session::PendingMessageToken;
 use session::ProcResult;
-use session::Refusal;
-
-// 0 where it was done, 1 where not.
-fn done_number(done: bool) -> u32
-    ensures { λ r. ⌜ r ≡ pick done 0 1 ⌝ }
-{
-    if done { 0 } else { 1 }
-}
 
 // ---- a fresh session
 
@@ -36,67 +28,7 @@ fn done_number(done: bool) -> u32
 pub extern "C" fn mahjonglarch_fresh(area: &mut [u8]) -> u32
     ensures { λ r. ⌜ (r ≡ pick (eqb (length (now (area .entry))) AREA) 0 1) × (now (area .exit) ≡ pick (eqb (length (now (area .entry))) AREA) (encode freshSession) (now (area .entry))) ⌝ }
 {
-    done_number(entrywrite::fresh(area))
-}
-
-// ---- answers as numbers
-
-// The number of the question that a refusal answers no.
-fn refusal_number(no: Refusal) -> u32
-    ensures { λ r. ⌜ r ≡ refusalNumber no ⌝ }
-{
-    match no {
-        Refusal::AreaSize => 1,
-        Refusal::KeyStateSize => 2,
-        Refusal::Block => 3,
-        Refusal::Session => 4,
-        Refusal::NothingHeld => 5,
-        Refusal::TooManyOpen => 6,
-        Refusal::QueueFull => 7,
-        Refusal::TokensUsed => 8,
-        Refusal::TooManyUnits => 9,
-        Refusal::NotLatest => 10,
-    }
-}
-
-fn open_number(a: OpenAnswer) -> u32
-    ensures { λ r. ⌜ r ≡ refusalOf (openSaid a) ⌝ }
-{
-    match a {
-        OpenAnswer::Refused(no) => refusal_number(no),
-        OpenAnswer::Opened(_) => 0,
-        OpenAnswer::OpenedNone => 0,
-    }
-}
-
-fn finish_number(a: FinishAnswer) -> u32
-    ensures { λ r. ⌜ r ≡ refusalOf (finishSaid a) ⌝ }
-{
-    match a {
-        FinishAnswer::Refused(no) => refusal_number(no),
-        FinishAnswer::Finished => 0,
-    }
-}
-
-// The token that was opened; 4,294,967,295 where none was.
-fn token_number(a: OpenAnswer) -> u32
-    ensures { λ r. ⌜ r ≡ tokenOf (openSaid a) ⌝ }
-{
-    match a {
-        OpenAnswer::Refused(_) => NONE,
-        OpenAnswer::Opened(token) => token.0,
-        OpenAnswer::OpenedNone => NONE,
-    }
-}
-
-// What became of a message result that was value 1, which no call sets: it stayed, or it is the default procedure's, or value 0.
-fn result_number(r: ProcResult) -> u32
-    ensures { λ n. ⌜ n ≡ changeOf r ⌝ }
-{
-    match r {
-        ProcResult::DefWindowProc => 1,
-        ProcResult::Value(v) => if v == 0 { 2 } else { 0 },
-    }
+    if headerwrite::fresh(area) { 0 } else { 1 } // question 1
 }
 
 // The peeked message, or its absence where `peeked` is 0.
@@ -127,21 +59,13 @@ pub extern "C" fn mahjonglarch_open(
 ) -> u32
     ensures { λ r. ⌜ ((was : ProcResult) → OpenSays r (now (token .exit)) (now (result .exit)) (now (session .exit)) (now (answers .exit)) (openOf (now (session .entry)) (now (answers .entry)) was (inputs (now (state .entry)) (now (block .entry))) (message kind wparam lparam)) was) ⌝ }
 {
-    let a = message::open(
-        session,
-        answers,
-        state,
-        block,
-        kind,
-        wparam,
-        lparam,
-        ProcResult::Value(1),
-    );
+    let was = ProcResult::Value(1);
+    let a = message::open(session, answers, state, block, kind, wparam, lparam, was);
     let answer = a.answer;
     let after = a.result;
-    *token = token_number(answer);
-    *result = result_number(after);
-    open_number(answer)
+    *token = answernumber::token_number(answer);
+    *result = answernumber::result_number(after);
+    answernumber::open_number(answer)
 }
 
 // Finishes the latest open message, which has the token, with the peeked message, or with none where `peeked` is 0: 0, or the number of the
@@ -169,7 +93,7 @@ pub extern "C" fn mahjonglarch_finish(
         PendingMessageToken(token),
         p,
     );
-    finish_number(a)
+    answernumber::finish_number(a)
 }
 
 // ---- the events of an answer area
@@ -191,7 +115,11 @@ pub extern "C" fn mahjonglarch_event_count(answers: &[u8]) -> u32
 pub extern "C" fn mahjonglarch_event(answers: &[u8], i: u32, fields: &mut [u32]) -> u32
     ensures { λ r. ⌜ _≡_ {A = ℕ × List ℕ} (r, now (fields .exit)) (fieldsLeft (eventAt (now (answers .entry)) i) (now (fields .entry))) ⌝ }
 {
-    done_number(eventfields::read_event(answers, i, fields))
+    if eventfields::read_event(answers, i, fields) {
+        0
+    } else {
+        1 // no such event
+    }
 }
 
 // A text of event i, copied to the front of `text`: its length, 0 where there is none. 0 is the logical key's character, 1 the text, 2 the

@@ -14,9 +14,9 @@ use Rattle.session.specs.Area.{encode, decode, encodeAnswer}
 use Rattle.session.specs.Builder.{Keyboard}
 use Rattle.session.specs.Calls.{Effect, findWait, finishEvent, finishHeld, isFirst, resolved, finishEffect}
 use Rattle.session.proofs.Laws.{finish-found}
-use Rattle.pending.specs.Place.{placeIn}
-use Rattle.queue.proofs.Areas.{AreaOf, held-area}
-use Rattle.queue.proofs.HeldPress.{nothing-within}
+use Rattle.sessionarea.specs.Place.{placeIn}
+use Rattle.sessionarea.proofs.Areas.{AreaOf, held-area}
+use Rattle.sessionarea.proofs.HeldPress.{nothing-within}
 use Rattle.finishing.specs.Resolves.{Does}
 
 -- the session with another press held, or none
@@ -25,10 +25,10 @@ holding s h = record { handed = s .handed; entries = s .entries; held = h }
 
 -- no press held any more
 pub forgotten :
-    (s : Session) {keep : Bool} {x y : List ℕ} → AreaOf s x →
+    (s : Session) (keep : Bool) {x y : List ℕ} → AreaOf s x →
     y ≡ encode (record { handed = decode x .handed; held = pick keep (decode x .held) none; entries = decode x .entries }) → keep ≡ false →
     AreaOf (holding s none) y
-forgotten s a e n = held-area s none a (nothing-within .0) (nothing-within .1) (rw n at e)
+forgotten s keep a e n = held-area s none a (nothing-within .0) (nothing-within .1) (rw n at e)
 
 -- the place of the entry in an area in which only the held press differs
 pub same-place :

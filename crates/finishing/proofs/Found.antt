@@ -24,10 +24,10 @@ use Rattle.entryread.specs.declared.Pending.{Pending}
 use Rattle.entryread.specs.declared.Pending.the-variants as case
 use Rattle.entryread.proofs.Walk.{entry-at, entry-ok-at}
 use Rattle.entryread.proofs.Places.{press-at, press-ok, release-at, release-ok, character-at}
-use Rattle.queue.specs.Room.{IsArea}
-use Rattle.queue.proofs.Sessions.{entries-fit}
-use Rattle.queue.proofs.Areas.{own-area}
-use Rattle.pending.specs.Place.{placeIn}
+use Rattle.sessionarea.specs.Room.{IsArea}
+use Rattle.sessionarea.proofs.Sessions.{entries-fit}
+use Rattle.sessionarea.proofs.Areas.{own-area}
+use Rattle.sessionarea.specs.Place.{placeIn}
 use Rattle.finishing.specs.Resolves.{At}
 
 -- ---- what the search finds is what waits at the place

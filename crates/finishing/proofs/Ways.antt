@@ -1,7 +1,7 @@
 -- What comes of an open message, by what was peeked.
 -- Assumes nothing.
 use mathlib.Core.Path.{_≡_, refl, sym, ap, _∙_}
-use mathlib.Core.Bool.{Bool, true, false}
+use mathlib.Core.Bool.{Bool, true, false, not, _&&_}
 use mathlib.Core.List.{List}
 use mathlib.Core.Option.{Option, some, none}
 use Prim.Native.Nat.{ℕ, _<_}
@@ -15,7 +15,8 @@ use Rattle.session.specs.Session.{press, release, character, Session, unitsWith
 use Rattle.session.specs.Builder.{Keyboard, keyboardOf, fromMessage, heldOf, pressEvent, releaseEvent, charEvent, fake}
 use Rattle.session.specs.Types.{asInfo, asHeld}
 use Rattle.session.specs.declared.HeldPress.{HeldPress}
-use Rattle.session.specs.Calls.{holds, moreComing, findWait}
+use Rattle.session.specs.Calls.{holds, moreComing, finishEvent, finishHeld, findWait}
+use Rattle.session.specs.Questions.{isHeld}
 use Rattle.session.proofs.Laws.{event-press, event-release, event-none, event-char, held-press, held-release, held-none, held-char}
 use Rattle.session.proofs.Fits.{KeyboardOk, keyboard-ok}
 use Rattle.focus.specs.Written.{keyboardAt}
@@ -34,11 +35,19 @@ module _ {q p : Peeked} {r v : Bool} where
   pub told-holds : r ≡ holds (asPeeked q) → r ≡ v → q ≡ p → holds (asPeeked p) ≡ v
   told-holds a t e = rw (← e) (sym a ∙ t)
 
-  pub told-more : r ≡ moreComing (asPeeked q) → r ≡ v → q ≡ p → moreComing (asPeeked p) ≡ v
-  told-more a t e = rw (← e) (sym a ∙ t)
-
   pub told-fake : (b : Keyboard) (n : Info) → r ≡ fake b n (asPeeked q) → r ≡ v → q ≡ p → fake b n (asPeeked p) ≡ v
   told-fake b n a t e = rw (← e) (sym a ∙ t)
+
+-- whether a character completes the held press, asked with a mark and of a message that are the header's and the peeked one
+pub told-completes :
+    (held : Bool) (p : Peeked) (a : Bool) (q : Peeked) {r v : Bool} → r ≡ (a && not (moreComing (asPeeked q))) → r ≡ v → (a ≡ held) × (q ≡ p) →
+    (held && not (moreComing (asPeeked p))) ≡ v
+told-completes held p a q m t e = rw (← e .0, ← e .1) (sym m ∙ t)
+
+pub held-and-last : (o : Option Held) (m : Bool) → (isHeld o && not m) ≡ true → (isHeld o ≡ true) × (m ≡ false)
+held-and-last (some g) false e = (refl, refl)
+held-and-last (some g) true e = let z : false ≡ true = e in (refl, sym z)
+held-and-last none m e = let z : false ≡ true = e in (z, (cc))
 
 -- a press made by the layout and the key state a and d, told of those of the finish, which they are
 pub told-held :
@@ -113,12 +122,16 @@ module _ (s : Session) (b : Keyboard) (t : ℕ) (p : Option Message) where
   -- ---- a character
 
   module _ (w : findWait t (s .entries) ≡ some character) where
-    pub char-alone : s .held ≡ none → Way s b t p none (s .held)
-    char-alone e = record { wait = character; found = w; event = rw e (event-none b p); after = rw e (held-none b p) }
-
-    pub char-more : (g : Held) → s .held ≡ some g → moreComing p ≡ true → Way s b t p none (s .held)
-    char-more g e m =
-        record { wait = character; found = w; event = rw e (event-char b g p ∙ rw m refl); after = rw e (held-char b g p ∙ rw m refl) }
+    -- nothing is completed: no press is held, or more is coming
+    pub char-dropped : (isHeld (s .held) && not (moreComing p)) ≡ false → Way s b t p none (s .held)
+    char-dropped e = record { wait = character; found = w; event = dropped (s .held) (moreComing p) e refl .0; after = dropped (s .held) (moreComing p) e refl .1 }
+      where
+        dropped :
+            (o : Option Held) (m : Bool) → (isHeld o && not m) ≡ false → moreComing p ≡ m →
+            (finishEvent b o character p ≡ none) × (finishHeld b o character p ≡ o)
+        dropped none m e f = (event-none b p, held-none b p)
+        dropped (some g) true e f = (event-char b g p ∙ rw f refl, held-char b g p ∙ rw f refl)
+        dropped (some g) false e f = let z : true ≡ false = e in ((cc), (cc))
 
     pub char-done : (g : Held) → s .held ≡ some g → moreComing p ≡ false → {v : Event} → v ≡ charEvent b g → Way s b t p (some v) none
     char-done g e m v =

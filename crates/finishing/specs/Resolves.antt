@@ -11,7 +11,7 @@ use Rattle.session.specs.Area.{entry, encode, decode, sessionOk, encodeAnswer}
 use Rattle.session.specs.Calls.{Effect}
 use Rattle.entryread.specs.Pending.{pendingOf}
 use Rattle.entryread.specs.declared.Pending.{Pending}
-use Rattle.pending.specs.Place.{placeIn}
+use Rattle.sessionarea.specs.Place.{placeIn}
 
 -- the first entry that carries the token t stands at a place and is of a case
 pub record At (k : Pending) (x y block : List ℕ) (t place : ℕ) : Type 0 where

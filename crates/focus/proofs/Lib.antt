@@ -1,2 +1,3 @@
 pub mod Events
 mod Notes
+pub mod Noted

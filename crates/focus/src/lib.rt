@@ -6,7 +6,7 @@ ghost use Prim.Native.Nat.{_+_, _≤_, _<_};
 ghost use lib.ListN.{length, take};
 ghost use Rattle.area.specs.Pick.{pick};
 ghost use Rattle.block.specs.Block.{blockOk};
-ghost use Rattle.session.specs.Focus.{modifierKeys, isOther, othersFrom, focusKeys, written};
+ghost use Rattle.session.specs.Focus.{modifierKeys, isOther, othersFrom, focusKeys, written, focusEvents};
 ghost use Rattle.focus.specs.Written.{keyboardAt, writtenOf};
 use session::ElementState;
 
@@ -121,4 +121,13 @@ pub fn focus_keys(block: &[u8], state: &[u8], st: ElementState) -> FocusKeys
             FocusKeys { keys, len }
         }
     }
+}
+
+// How many events a focus change has.
+pub fn focus_count(block: &[u8], state: &[u8], st: ElementState) -> usize
+    requires { ⌜ blockOk (now block) ≡ true ⌝ }
+    ensures { λ r. ⌜ r ≡ length (focusEvents (keyboardAt (now (block .entry)) (now (state .entry))) st) ⌝ }
+{
+    let counted = focus_keys(block, state, st);
+    counted.len
 }

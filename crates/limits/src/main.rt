@@ -324,7 +324,7 @@ fn show_step(
 fn prepare(session: &mut [u8; 65536], state: &mut [u8; 256], line: &[u8]) {
     let what = byte_at(line, 0);
     if what == b'n' {
-        entrywrite::fresh(session);
+        headerwrite::fresh(session);
     }
     if what == b'k' {
         lines::set_keys(line, state);

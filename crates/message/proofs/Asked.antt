@@ -28,11 +28,12 @@ use Rattle.session.specs.declared.Refusal.{Refusal}
 use Rattle.session.proofs.Laws.{effect-brought, effect-finished, finish-found, finish-lost}
 use Rattle.session.proofs.Lists.{and-true}
 use Rattle.focus.specs.Written.{keyboardAt}
-use Rattle.queue.specs.Room.{IsArea}
-use Rattle.questions.specs.Asked.{asNo, asSort, firstFour}
+use Rattle.sessionarea.specs.Room.{IsArea}
+use Rattle.questions.specs.Asked.{asNo, firstFour}
+use Rattle.sorts.specs.Sorts.{asSort}
 use Rattle.questions.specs.declared.Asked.{Asked}
 use Rattle.questions.specs.declared.Asked.the-variants as a
-use Rattle.questions.specs.declared.MessageSort.{MessageSort}
+use Rattle.sorts.specs.declared.MessageSort.{MessageSort}
 use Rattle.opening.specs.Gives.{Gives}
 use Rattle.dispatch.specs.Passes.{Passes}
 use Rattle.peeked.specs.Peeked.{asPeeked}

@@ -17,11 +17,6 @@ pub struct Opened {
     pub result: ProcResult,
 }
 
-// The message result, lent and set by an open.
-pub struct MessageResult {
-    pub value: ProcResult,
-}
-
 fn answered(answer: OpenAnswer, result: ProcResult) -> Opened
     ensures { λ r. ⌜ (r .answer ≡ answer) × (r .result ≡ result) ⌝ }
 {
@@ -45,8 +40,8 @@ pub fn open(
     if let Asked::Failed(no) = early {
         return answered(OpenAnswer::Refused(no), result); // 1 to 4
     }
-    let sort = questions::sort_of(kind, wparam, lparam);
-    let late = questions::ask_message(session, block, state, sort, wparam);
+    let sort = sorts::sort_of(kind, wparam, lparam);
+    let late = sessionquestions::ask_message(session, block, state, sort, wparam);
     if let Asked::Failed(no) = late {
         return answered(OpenAnswer::Refused(no), result); // 5 to 9
     }
@@ -54,25 +49,6 @@ pub fn open(
     let after = dispatch::result_after(sort, h.held, kind, result);
     let answer = dispatch::open_by(session, answers, block, state, sort, wparam, lparam);
     answered(answer, after)
-}
-
-// Takes a message and sets the message result that it is lent.
-pub fn process_message(
-    session: &mut [u8],
-    answers: &mut [u8],
-    state: &[u8],
-    block: &[u8],
-    kind: u32,
-    wparam: u64,
-    lparam: u64,
-    result: &mut MessageResult,
-) -> OpenAnswer
-    ensures { λ r. ⌜ left (openSaid r) (now (result .exit) .value) (now (session .exit)) (now (answers .exit)) ≡ openOf (now (session .entry)) (now (answers .entry)) (now (result .entry) .value) (inputs (now (state .entry)) (now (block .entry))) (message kind wparam lparam) ⌝ }
-{
-    let old = result.value;
-    let a = open(session, answers, state, block, kind, wparam, lparam, old);
-    result.value = a.result;
-    a.answer
 }
 
 // Finishes the latest open message with what was peeked.
@@ -90,7 +66,7 @@ pub fn finish(
     if let Asked::Failed(no) = early {
         return FinishAnswer::Refused(no);
     }
-    let late = questions::ask_finish(session, token);
+    let late = sessionquestions::ask_finish(session, token);
     if let Asked::Failed(no) = late {
         return FinishAnswer::Refused(no);
     }

@@ -27,8 +27,8 @@ use Rattle.session.specs.declared.OpenAnswer.{OpenAnswer}
 use Rattle.session.specs.declared.OpenAnswer.the-variants.{Opened}
 use Rattle.session.specs.declared.PendingMessageToken.{PendingMessageToken}
 use Rattle.session.proofs.Fits.{KeyboardOk, keyboard-ok, info-fits, scan-small, units-fit}
-use Rattle.queue.specs.Room.{IsArea, HasRoom}
-use Rattle.queue.proofs.Areas.{AreaOf, own-area, held-area, room-of}
+use Rattle.sessionarea.specs.Room.{IsArea, HasRoom}
+use Rattle.sessionarea.proofs.Areas.{AreaOf, own-area, held-area, room-of}
 use Rattle.focus.specs.Written.{keyboardAt}
 use Rattle.opening.specs.Gives.{Gives}
 

@@ -13,7 +13,7 @@ ghost use Rattle.session.specs.Builder.{fromMessage};
 ghost use Rattle.session.specs.Calls.{opening, charOpened};
 ghost use Rattle.session.specs.Answers.{openSaid, noToken};
 ghost use Rattle.focus.specs.Written.{keyboardAt};
-ghost use Rattle.queue.specs.Room.{HasRoom};
+ghost use Rattle.sessionarea.specs.Room.{HasRoom};
 ghost use Rattle.opening.specs.Gives.{Gives, MayChar};
 use session::OpenAnswer;
 
@@ -69,7 +69,7 @@ pub fn open_char(session: &mut [u8], answers: &mut [u8], wparam: u64) -> OpenAns
     }
     let held = recordread::held_at(&session[3..]);
     let more = keyevent::with_units(held, wparam);
-    queue::set_held(session, more);
+    heldpress::set_held(session, more);
     let token = queue::add_character(session);
     answers::no_events(answers);
     OpenAnswer::Opened(token) // the character

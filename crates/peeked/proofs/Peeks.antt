@@ -1,7 +1,8 @@
 -- What was peeked, by its case in the code.
 -- Assumes nothing.
 use mathlib.Core.Path.{_≡_, refl}
-use mathlib.Core.Bool.{false}
+use mathlib.Core.Bool.{Bool, true, false, not, _&&_}
+use borrow.Author.Tests.{not-true, not-false}
 use mathlib.Core.Option.{Option, some, none}
 use Prim.Native.Nat.{ℕ}
 use Rattle.session.specs.Event.{Info}
@@ -31,3 +32,12 @@ none-more p e = rw e refl
 pub none-fake : (b : Keyboard) (n : Info) (p : Option Message) → p ≡ none → false ≡ fake b n p
 unfolding fake
 none-fake b n p e = rw e refl
+
+-- ---- whether a character completes the held press
+
+module _ (held more : Bool) where
+  pub none-completed : not held ≡ true → false ≡ (held && not more)
+  none-completed h = rw (not-true held h) refl
+
+  pub completed-last : {r : Bool} → not held ≡ false → r ≡ more → not r ≡ (held && not more)
+  completed-last h e = rw (not-false held h, e) refl

@@ -1,6 +1,6 @@
 // What was peeked behind a message, and what it tells: whether a press is held, whether more characters are coming, whether a key is fake.
 ghost use mathlib.Core.Path.{_≡_};
-ghost use mathlib.Core.Bool.{true};
+ghost use mathlib.Core.Bool.{true, not, _&&_};
 ghost use mathlib.Core.List.{List};
 ghost use mathlib.Core.Option.{some};
 ghost use Prim.Native.Nat.{ℕ};
@@ -51,13 +51,23 @@ fn kind_more(kind: u32) -> bool
     }
 }
 
-pub fn more_coming(peeked: Peeked) -> bool
+fn more_coming(peeked: Peeked) -> bool
     ensures { λ r. ⌜ r ≡ moreComing (asPeeked peeked) ⌝ }
 {
     match peeked {
         Peeked::Nothing => false,
         Peeked::Message(kind, _, _) => kind_more(kind),
     }
+}
+
+// Whether a character completes the held press: one is held, and no more characters are coming.
+pub fn completes(held: bool, peeked: Peeked) -> bool
+    ensures { λ r. ⌜ r ≡ (held && not (moreComing (asPeeked peeked))) ⌝ }
+{
+    if !held {
+        return false; // nothing to complete
+    }
+    !more_coming(peeked)
 }
 
 pub fn is_fake(block: &[u8], info: PartialKeyEventInfo, peeked: Peeked) -> bool

@@ -1,2 +1,1 @@
-mod Resolved
 mod Search

@@ -22,9 +22,9 @@ use Rattle.session.specs.Area.{entry, decode}
 use Rattle.session.specs.Questions.{latest, lastToken, isToken}
 use Rattle.entryread.proofs.Entries.{decode-got}
 use Rattle.entryread.proofs.Walk.{entries-got, entry-at, read-as}
-use Rattle.queue.specs.Room.{IsArea}
-use Rattle.pending.specs.Place.{placeIn}
-use Rattle.pending.proofs.Resolved.{count-most}
+use Rattle.sessionarea.specs.Room.{IsArea}
+use Rattle.sessionarea.specs.Place.{placeIn}
+use Rattle.sessionarea.proofs.Kept.{count-most}
 
 -- ---- each entry stands within the area
 

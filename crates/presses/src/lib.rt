@@ -25,11 +25,11 @@ pub fn finish_press(
     let p = entryread::pressed_at(&session[at..]);
     let h = partial::press(block, state, p.vkey, p.lparam);
     if peeked::holds(peeked) {
-        queue::set_held(session, h);
+        heldpress::set_held(session, h);
         drain::remove_pending(session, answers, place, token);
         return;
     }
-    queue::keep_held(session, false);
+    heldpress::keep_held(session, false);
     if peeked::is_fake(block, h.info, peeked) {
         drain::remove_pending(session, answers, place, token);
         return;

@@ -1,3 +1,1 @@
-mod Ladder
-mod Messages
-mod Sorts
+pub mod Ladder

@@ -1,4 +1,4 @@
--- What the types of the questions stand for.
+-- What the answer to the questions stands for, and the questions that are put to every call.
 -- Assumes nothing.
 use Prim.Native.Nat.{ℕ}
 use mathlib.Core.Bool.{Bool}
@@ -8,28 +8,16 @@ use lib.Dec.{eqb}
 use lib.ListN.{length}
 use Rattle.block.specs.Block.{blockOk}
 use Rattle.session.specs.Limits.{KEYS}
-use Rattle.session.specs.Given.{Message}
-use Rattle.session.specs.Calls.{Sort, keyDown, keyUp, char, deadChar, ignored, focus}
 use Rattle.session.specs.Questions.{question1}
 use Rattle.session.specs.Area.{sessionOk}
 use Rattle.session.specs.Answers.{refusalNumber}
 use Rattle.questions.specs.declared.Asked.{Asked}
 use Rattle.questions.specs.declared.Asked.the-variants as a
-use Rattle.questions.specs.declared.MessageSort.{MessageSort}
-use Rattle.questions.specs.declared.MessageSort.the-variants as m
 
 -- the number of the first question that was failed, if any
 unfoldable pub asNo : Asked → Option ℕ
 asNo a.Passed = none
 asNo (a.Failed r) = some (refusalNumber r)
-
-unfoldable pub asSort : MessageSort → Sort
-asSort m.KeyDown = keyDown
-asSort m.KeyUp = keyUp
-asSort m.Char = char
-asSort m.DeadChar = deadChar
-asSort (m.Focus st) = focus st
-asSort m.Ignored = ignored
 
 -- "1 to 4 are put to every call"
 unfoldable pub firstFour : List ℕ → List ℕ → List ℕ → List ℕ → List (ℕ × Bool)

@@ -1,28 +1,23 @@
--- What the writes make of an area: an entry behind the last one, the held press.
+-- What the writes make of an area: an entry behind the last one.
 -- Assumes nothing.
 use mathlib.Core.Path.{_≡_, refl, sym, ap, _∙_}
-use mathlib.Core.Bool.{Bool, true, false, not}
+use mathlib.Core.Bool.{true}
 use mathlib.Core.List.{List, [], _∷_, _++_}
-use mathlib.Core.Option.{Option, some, none}
 use Prim.Native.Nat.{ℕ, suc, _+_, _*_, _≤_, _<_}
 use native.Mathlib.Omega.{arith}
-use lib.ListN.{getD, length, length-take}
+use lib.ListN.{getD, length}
 use borrow.Author.Tests.{lt-ltb}
 use Rattle.area.specs.Bytes.{le}
-use Rattle.area.specs.Pick.{pick}
 use Rattle.area.specs.Splice.{splice}
 use Rattle.keystroke.specs.declared.KeyLParam.{KeyLParam}
-use Rattle.session.specs.Limits.{ENTRIES-MOST, TOKENS-MOST, UNITS-MOST}
-use Rattle.session.specs.Event.{Event, Info, Held}
-use Rattle.session.specs.Session.{Wait, press, release, character, Entry, waiting, complete, Session, tokenOf, waitFits, entryFits, eventFits, infoFits, heldFits}
-use Rattle.session.specs.Area.{entry, heldField, encode, decode}
+use Rattle.session.specs.Limits.{ENTRIES-MOST, TOKENS-MOST}
+use Rattle.session.specs.Event.{Event, Info}
+use Rattle.session.specs.Session.{Wait, press, release, character, Entry, waiting, complete, Session, tokenOf, waitFits, entryFits, eventFits, infoFits}
+use Rattle.session.specs.Area.{entry, encode, decode}
 use Rattle.session.specs.Calls.{opening}
-use Rattle.session.specs.Types.{asHeld}
-use Rattle.session.specs.declared.HeldPress.{HeldPress}
-use Rattle.session.proofs.Area.{OptHeldFits}
-use Rattle.session.proofs.Writes.{Stored, handed-put, held-put, entry-put, put-stored}
-use Rattle.queue.specs.Room.{IsArea, HasRoom}
-use Rattle.queue.proofs.Kept.{kept}
+use Rattle.session.proofs.Writes.{Stored, handed-put, entry-put, put-stored}
+use Rattle.sessionarea.specs.Room.{HasRoom}
+use Rattle.sessionarea.proofs.Kept.{kept}
 
 pub counted :
     (n h : ℕ) (x : List ℕ) {y z : List ℕ} {m k : ℕ} → y ≡ splice 107 (le 2 m) x → z ≡ splice 0 (le 2 k) y → m ≡ n + 1 → k ≡ h + 1 →
@@ -83,31 +78,3 @@ release-fits n h = h
 pub character-fits : waitFits character ≡ true
 unfolding waitFits
 character-fits = refl
-
--- ---- the held press
-
-pub held-fits : (h : HeldPress) → h .len ≤ UNITS-MOST → heldFits (some (asHeld h)) ≡ true → OptHeldFits (some (asHeld h))
-unfolding asHeld
-held-fits h l f = (f, omega (arith, length-take (h .len) (h .units)))
-
-pub held-set :
-    (x : List ℕ) → ((i : ℕ) → getD x i 0 < 256) → IsArea x → (o : Option Held) → OptHeldFits o → {k : ℕ} {y : List ℕ} →
-    y ≡ splice k (heldField .put o) x → k ≡ 2 →
-    y ≡ encode (record { handed = decode x .handed; held = o; entries = decode x .entries })
-held-set x b r o f {k} p u =
-    let q = kept x b (r .size) (r .passed) in
-    p ∙ ap (λ (l : List ℕ). splice k (heldField .put o) l) (sym (q .1)) ∙ rw u (held-put (decode x) (q .0) o f)
-
--- .. kept or forgotten
-module _ (x : List ℕ) (b : (i : ℕ) → getD x i 0 < 256) (r : IsArea x) where
-  pub held-kept :
-      (keep : Bool) → not keep ≡ false →
-      x ≡ encode (record { handed = decode x .handed; held = pick keep (decode x .held) none; entries = decode x .entries })
-  held-kept true e = sym (kept x b (r .size) (r .passed) .1)
-  held-kept false e = let z : _≡_ {A = ℕ} 0 1 = cc in absurd (omega arith)
-
-  pub held-forgotten :
-      (keep : Bool) → not keep ≡ true → {k : ℕ} {y : List ℕ} → y ≡ splice k (heldField .put none) x → k ≡ 2 →
-      y ≡ encode (record { handed = decode x .handed; held = pick keep (decode x .held) none; entries = decode x .entries })
-  held-forgotten true e p u = let z : _≡_ {A = ℕ} 0 1 = cc in absurd (omega arith)
-  held-forgotten false e p u = held-set x b r none tt p u

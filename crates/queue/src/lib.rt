@@ -1,22 +1,18 @@
-// Entries added to the queue of a session's area (tao's PendingEventQueue::add_pending and complete_multi), and the held press set.
+// Entries added to the queue of a session's area: tao's PendingEventQueue::add_pending and complete_multi.
 ghost use mathlib.Core.Path.{_≡_};
 ghost use mathlib.Core.Bool.{true};
 ghost use mathlib.Core.List.{[], _∷_, _++_};
-ghost use mathlib.Core.Option.{some, none};
 ghost use Prim.Native.Nat.{_+_, _*_, _≤_};
 ghost use lib.ListN.{length};
 ghost use Rattle.area.specs.Bytes.{le};
-ghost use Rattle.area.specs.Pick.{pick};
 ghost use Rattle.area.specs.Splice.{splice};
-ghost use Rattle.session.specs.Limits.{UNITS-MOST};
-ghost use Rattle.session.specs.Session.{press, release, character, complete, heldFits, eventFits, infoFits};
+ghost use Rattle.session.specs.Session.{press, release, character, complete, eventFits, infoFits};
 ghost use Rattle.session.specs.Area.{encode, decode};
 ghost use Rattle.session.specs.Calls.{opening};
-ghost use Rattle.session.specs.Types.{asEvent, asInfo, asHeld, EventLens, InfoLens};
-ghost use Rattle.queue.specs.Room.{IsArea, HasRoom};
+ghost use Rattle.session.specs.Types.{asEvent, asInfo, EventLens, InfoLens};
+ghost use Rattle.sessionarea.specs.Room.{HasRoom};
 use entryread::Header;
 use keystroke::KeyLParam;
-use session::HeldPress;
 use session::KeyEvent;
 use session::PartialKeyEventInfo;
 use session::PendingMessageToken;
@@ -83,23 +79,4 @@ pub fn add_complete(area: &mut [u8], e: KeyEvent)
     let token = PendingMessageToken(h.handed as u32);
     entrywrite::put_complete(area, next_place(h), token, e);
     count_one(area, h);
-}
-
-// ---- the held press
-
-pub fn set_held(area: &mut [u8], h: HeldPress)
-    requires { ⌜ IsArea (now area) × InfoLens (h .info) × (h .len ≤ UNITS-MOST) × (heldFits (some (asHeld h)) ≡ true) ⌝ }
-    ensures { λ _. ⌜ now (area .exit) ≡ encode (record { handed = decode (now (area .entry)) .handed; held = some (asHeld h); entries = decode (now (area .entry)) .entries }) ⌝ }
-{
-    entrywrite::put_some_held(area, 2, h);
-}
-
-// What a message leaves of the held press: kept, or forgotten.
-pub fn keep_held(area: &mut [u8], keep: bool)
-    requires { ⌜ IsArea (now area) ⌝ }
-    ensures { λ _. ⌜ now (area .exit) ≡ encode (record { handed = decode (now (area .entry)) .handed; held = pick keep (decode (now (area .entry)) .held) none; entries = decode (now (area .entry)) .entries }) ⌝ }
-{
-    if !keep {
-        entrywrite::put_no_held(area, 2);
-    }
 }

@@ -1,5 +1,2 @@
-pub mod Parts
-mod Texts
-pub mod Keys
 mod Units
 pub mod Records

@@ -1,4 +1,4 @@
--- The bytes of an event, of what is kept of a press or a release, and of the held press, part by part.
+-- The bytes of what is kept of a press or a release, and of the held press, part by part.
 -- Assumes nothing.
 use mathlib.Core.Path.{_≡_, refl, sym, ap, subst, _∙_}
 use mathlib.Core.Bool.{Bool}
@@ -11,21 +11,16 @@ use Rattle.area.specs.Splice.{splice}
 use Rattle.area.proofs.Bytes.{length-le}
 use Rattle.keys.specs.Location.{locationNumber}
 use Rattle.keys.specs.declared.KeyLocation.{KeyLocation}
-use Rattle.keycode.specs.declared.KeyCode.{KeyCode}
 use Rattle.keystroke.specs.declared.KeyLParam.{KeyLParam}
-use Rattle.session.specs.Limits.{UNITS-MOST, TEXT-MOST, KEY-TEXT-MOST}
-use Rattle.session.specs.Codec.{Codec, byte, number, pair, checked, via, listOf}
-use Rattle.session.specs.Area.{flag, stateNumber, state, location, textBytes, optText, keyCode, fullKey, event, info, INFO, held, pressed}
-use Rattle.session.specs.Types.{asBytes, asText, asKey, asEvent, asInfo, asHeld, EventLens, InfoLens}
-use Rattle.session.specs.declared.ElementState.{ElementState}
-use Rattle.session.specs.declared.Text.{Text}
+use Rattle.session.specs.Limits.{UNITS-MOST, KEY-TEXT-MOST}
+use Rattle.session.specs.Codec.{byte, number, pair, checked, via, listOf}
+use Rattle.session.specs.Area.{flag, location, fullKey, info, INFO, held, pressed}
+use Rattle.session.specs.Types.{asKey, asInfo, asHeld, InfoLens}
 use Rattle.session.specs.declared.TextKey.{TextKey}
-use Rattle.session.specs.declared.KeyEvent.{KeyEvent}
 use Rattle.session.specs.declared.PartialKeyEventInfo.{PartialKeyEventInfo}
 use Rattle.session.specs.declared.HeldPress.{HeldPress}
-use Rattle.recordwrite.proofs.Parts.{meet, both, pair-length, written-as}
-use Rattle.recordwrite.proofs.Texts.{text-length, bytes-within, opt-put}
-use Rattle.recordwrite.proofs.Keys.{state-put, location-put, flag-length, state-length, location-length, code-length, key-length}
+use Rattle.fieldwrite.proofs.Parts.{meet, both, pair-length, written-as}
+use Rattle.fieldwrite.proofs.Keys.{location-put, flag-length, location-length, key-length}
 
 number-length : (k v : ℕ) → length (number k .put v) ≡ k
 unfolding number
@@ -34,87 +29,6 @@ number-length k v = length-le k v
 number-put : (k v : ℕ) → le k v ≡ number k .put v
 unfolding number
 number-put k v = refl
-
--- ---- location, state, repeat, synthetic
-
-abbrev marks : Codec (KeyLocation × (ElementState × (Bool × Bool)))
-marks = pair location (pair state (pair flag flag))
-
-pub marks-written :
-    (l : KeyLocation) (s : ElementState) (b d : Bool) (at : ℕ) (x : List ℕ) {v w k₁ k₂ k₃ : ℕ} {y₁ y₂ y₃ y₄ : List ℕ} →
-    v ≡ locationNumber l → y₁ ≡ splice at (v ∷ []) x → w ≡ stateNumber s → y₂ ≡ splice k₁ (w ∷ []) y₁ →
-    y₃ ≡ splice k₂ (flag .put b) y₂ → y₄ ≡ splice k₃ (flag .put d) y₃ → k₁ ≡ at + 1 → k₂ ≡ at + 2 → k₃ ≡ at + 3 →
-    y₄ ≡ splice at (marks .put (l, (s, (b, d)))) x
-marks-written l s b d at x {k₁} {k₂} {k₃} {y₁} {y₂} e₁ p₁ e₂ p₂ p₃ p₄ f₁ f₂ f₃ =
-    both location (pair state (pair flag flag)) l (s, (b, d)) at 1 k₁ x (location-length l) f₁ (written-as at x (location-put l e₁) p₁)
-    (both state (pair flag flag) s (b, d) k₁ 1 k₂ y₁ (state-length s) (omega arith) (written-as k₁ y₁ (state-put s e₂) p₂)
-    (both flag flag b d k₂ 1 k₃ y₂ (flag-length b) (omega arith) p₃ p₄))
-
--- with more behind them
-marks-first :
-    {T : Type 0} (Y : Codec T) (l : KeyLocation) (s : ElementState) (b d : Bool) (t : T) →
-    pair marks Y .put ((l, (s, (b, d))), t) ≡ pair location (pair state (pair flag (pair flag Y))) .put (l, (s, (b, (d, t))))
-unfolding pair location state flag via checked byte
-marks-first Y l s b d t = refl
-
-marks-length : (l : KeyLocation) (s : ElementState) (b d : Bool) → length (marks .put (l, (s, (b, d)))) ≡ 4
-unfolding pair location state flag via checked byte
-marks-length l s b d = refl
-
--- ---- an event
-
-opt-length : (t : Text) → t .len ≤ TEXT-MOST → length (optText .put (asText t)) ≡ 49
-opt-length t h =
-    ap length (opt-put t) ∙ text-length TEXT-MOST (asBytes t) (omega (arith, bytes-within t)) (omega arith)
-
-event-parts :
-    (e : KeyEvent) (at : ℕ) (x : List ℕ) {k₁ k₂ k₃ k₄ k₅ : ℕ} {y₁ y₂ y₃ y₄ y₅ y₆ : List ℕ} → EventLens e →
-    y₁ ≡ splice at (keyCode .put (e .«physical_key»)) x → y₂ ≡ splice k₁ (fullKey TEXT-MOST .put (asKey (e .«logical_key»))) y₁ →
-    y₃ ≡ splice k₂ (textBytes TEXT-MOST .put (asBytes (e .text))) y₂ →
-    y₄ ≡ splice k₃ (marks .put (e .location, (e .state, (e .repeat, e .«is_synthetic»)))) y₃ →
-    y₅ ≡ splice k₄ (textBytes TEXT-MOST .put (asBytes (e .«text_with_all_modifiers»))) y₄ →
-    y₆ ≡ splice k₅ (fullKey KEY-TEXT-MOST .put (asKey (e .«key_without_modifiers»))) y₅ → k₁ ≡ at + 6 → k₂ ≡ at + 62 →
-    k₃ ≡ at + 111 → k₄ ≡ at + 115 → k₅ ≡ at + 164 → y₆ ≡ splice at (event .put (asEvent e)) x
-unfolding event via asEvent
-event-parts e at x {k₁} {k₂} {k₃} {k₄} {k₅} {y₁} {y₂} {y₃} {y₄} {y₅} h p₁ p₂ p₃ p₄ p₅ p₆ f₁ f₂ f₃ f₄ f₅ =
-    let l = asKey (e .«logical_key») in
-    let w = asKey (e .«key_without_modifiers») in
-    let t = asText (e .text) in
-    let u = asText (e .«text_with_all_modifiers») in
-    let tail = pair optText (fullKey KEY-TEXT-MOST) in
-    let rest = pair location (pair state (pair flag (pair flag tail))) in
-    both keyCode (pair (fullKey TEXT-MOST) (pair optText rest)) (e .«physical_key») _ at 6 k₁ x (code-length (e .«physical_key»)) f₁ p₁
-    (both (fullKey TEXT-MOST) (pair optText rest) l _ k₁ 56 k₂ y₁ (key-length TEXT-MOST (e .«logical_key») (h .logicalKey) (omega arith)) (omega arith) p₂
-    (both optText rest t _ k₂ 49 k₃ y₂ (opt-length (e .text) (h .text)) (omega arith) (written-as k₂ y₂ (sym (opt-put (e .text))) p₃)
-    (written-as k₃ y₃ (marks-first tail (e .location) (e .state) (e .repeat) (e .«is_synthetic») (u, w))
-    (both marks tail _ (u, w) k₃ 4 k₄ y₃ (marks-length (e .location) (e .state) (e .repeat) (e .«is_synthetic»)) (omega arith) p₄
-    (both optText (fullKey KEY-TEXT-MOST) u w k₄ 49 k₅ y₄ (opt-length (e .«text_with_all_modifiers») (h .textWithAllModifiers)) (omega arith)
-    (written-as k₄ y₄ (sym (opt-put (e .«text_with_all_modifiers»))) p₅) p₆)))))
-
--- what was written is the event's own
-pub event-written :
-    (e : KeyEvent) (at : ℕ) (x : List ℕ) {c : KeyCode} {l w : TextKey} {t u : Text} {p : KeyLocation} {s : ElementState} {b d : Bool}
-    {k₁ k₂ k₃ k₄ k₅ : ℕ} {y₁ y₂ y₃ y₄ y₅ y₆ : List ℕ} → EventLens e → y₁ ≡ splice at (keyCode .put c) x →
-    y₂ ≡ splice k₁ (fullKey TEXT-MOST .put (asKey l)) y₁ → y₃ ≡ splice k₂ (textBytes TEXT-MOST .put (asBytes t)) y₂ →
-    y₄ ≡ splice k₃ (marks .put (p, (s, (b, d)))) y₃ → y₅ ≡ splice k₄ (textBytes TEXT-MOST .put (asBytes u)) y₄ →
-    y₆ ≡ splice k₅ (fullKey KEY-TEXT-MOST .put (asKey w)) y₅ → k₁ ≡ at + 6 → k₂ ≡ at + 62 → k₃ ≡ at + 111 → k₄ ≡ at + 115 →
-    k₅ ≡ at + 164 →
-    _≡_ {A = KeyEvent}
-    (record {
-      «physical_key» = c;
-      «logical_key» = l;
-      text = t;
-      location = p;
-      state = s;
-      repeat = b;
-      «is_synthetic» = d;
-      «text_with_all_modifiers» = u;
-      «key_without_modifiers» = w;
-    })
-    e → y₆ ≡ splice at (event .put (asEvent e)) x
-event-written e at x h p₁ p₂ p₃ p₄ p₅ p₆ f₁ f₂ f₃ f₄ f₅ q =
-    event-parts _ at x (subst EventLens (sym q) h) p₁ p₂ p₃ p₄ p₅ p₆ f₁ f₂ f₃ f₄ f₅
-    ∙ ap (λ (o : KeyEvent). splice at (event .put (asEvent o)) x) q
 
 -- ---- what is kept of a press or a release
 

@@ -310,7 +310,7 @@ fn play(
     let mut calls: u64 = 0;
     let mut events: u64 = 0;
     let mut turn: usize = 0;
-    entrywrite::fresh(session);
+    headerwrite::fresh(session);
     while turn < d.len() {
         let what = byte_at(d, at);
         if what < 2 {

@@ -22,10 +22,10 @@ use Rattle.entryread.specs.Pending.{pendingOf}
 use Rattle.entryread.specs.declared.Pending.{Pending}
 use Rattle.entryread.specs.declared.Pending.the-variants as case
 use Rattle.entryread.proofs.Places.{complete-at}
-use Rattle.queue.specs.Room.{IsArea}
-use Rattle.queue.proofs.Sessions.{entries-fit}
-use Rattle.queue.proofs.Areas.{own-area}
-use Rattle.pending.specs.Place.{placeIn}
+use Rattle.sessionarea.specs.Room.{IsArea}
+use Rattle.sessionarea.proofs.Sessions.{entries-fit}
+use Rattle.sessionarea.proofs.Areas.{own-area}
+use Rattle.sessionarea.specs.Place.{placeIn}
 use Rattle.finishing.specs.Resolves.{At, Does}
 use Rattle.finishing.proofs.Found.{waits-here}
 

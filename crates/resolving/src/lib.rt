@@ -7,7 +7,7 @@ ghost use Rattle.session.specs.Limits.{AREA};
 ghost use Rattle.session.specs.Area.{decode};
 ghost use Rattle.session.specs.Calls.{findWait, finishEffect};
 ghost use Rattle.focus.specs.Written.{keyboardAt};
-ghost use Rattle.queue.specs.Room.{IsArea};
+ghost use Rattle.sessionarea.specs.Room.{IsArea};
 ghost use Rattle.peeked.specs.Peeked.{asPeeked};
 ghost use Rattle.finishing.specs.Resolves.{Does};
 use entryread::Pending;

@@ -2,7 +2,6 @@
 use libc::STDOUT_FILENO;
 use session::FinishAnswer;
 use session::OpenAnswer;
-use session::Refusal;
 
 // ---- numbers from bytes, with the low byte first; 0 where the bytes end before
 
@@ -108,22 +107,6 @@ pub fn copy(from: &[u8], to: &mut [u8]) {
 
 // ---- what a call said
 
-// The number of the question that a refusal answers no.
-fn refusal_number(no: Refusal) -> u32 {
-    match no {
-        Refusal::AreaSize => 1,
-        Refusal::KeyStateSize => 2,
-        Refusal::Block => 3,
-        Refusal::Session => 4,
-        Refusal::NothingHeld => 5,
-        Refusal::TooManyOpen => 6,
-        Refusal::QueueFull => 7,
-        Refusal::TokensUsed => 8,
-        Refusal::TooManyUnits => 9,
-        Refusal::NotLatest => 10,
-    }
-}
-
 // What a call said: 0 refused, 1 opened none or finished, 2 opened; and the refusal's number or the token.
 pub struct Said {
     pub what: u8,
@@ -134,7 +117,7 @@ pub fn said_by_open(a: OpenAnswer) -> Said {
     match a {
         OpenAnswer::Refused(no) => Said {
             what: 0,
-            number: refusal_number(no),
+            number: answernumber::refusal_number(no),
         },
         OpenAnswer::Opened(token) => Said {
             what: 2,
@@ -148,7 +131,7 @@ pub fn said_by_finish(a: FinishAnswer) -> Said {
     match a {
         FinishAnswer::Refused(no) => Said {
             what: 0,
-            number: refusal_number(no),
+            number: answernumber::refusal_number(no),
         },
         FinishAnswer::Finished => Said { what: 1, number: 0 },
     }

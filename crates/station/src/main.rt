@@ -408,7 +408,7 @@ fn shift<'a>(names: &[u8], us: &'a [u8], flagged: &'a [u8], accent: &'a [u8], in
     let mut layout: u64 = 0;
     let mut at: usize = 0;
     let mut turn: usize = 0;
-    entrywrite::fresh(&mut session);
+    headerwrite::fresh(&mut session);
     while turn < input.len() {
         let to = find(input, at, b'\n');
         let line = part(input, at, to);

@@ -19,9 +19,10 @@ use Rattle.session.specs.declared.ElementState.{ElementState}
 use Rattle.session.proofs.Area.{session-back, session-exact}
 use Rattle.session.proofs.Kept.{length-numbered}
 use Rattle.focus.specs.Written.{keyboardAt}
-use Rattle.queue.specs.Room.{IsArea, HasRoom}
-use Rattle.queue.proofs.Sessions.{complete-session}
-use Rattle.synthesize.proofs.Events.{eventOf, Noted, eventsTo, none-yet, one-more, all-events, one-left, event-fits}
+use Rattle.sessionarea.specs.Room.{IsArea, HasRoom}
+use Rattle.sessionarea.proofs.Sessions.{complete-session}
+use Rattle.focus.proofs.Noted.{eventOf, Noted, eventsTo, none-yet, one-more, all-events, one-left}
+use Rattle.synthesize.proofs.Events.{event-fits}
 
 -- one event more, under the next token
 numbered-behind : (t : ℕ) (es : List Event) (e : Event) → numbered t (es ++ (e ∷ [])) ≡ numbered t es ++ (complete (t + length es) e ∷ [])

@@ -11,17 +11,8 @@ ghost use Rattle.session.specs.Area.{encode, decode, encodeAnswer};
 ghost use Rattle.session.specs.Calls.{numbered};
 ghost use Rattle.session.specs.Focus.{focusEvents};
 ghost use Rattle.focus.specs.Written.{keyboardAt};
-ghost use Rattle.queue.specs.Room.{IsArea};
+ghost use Rattle.sessionarea.specs.Room.{IsArea};
 use session::ElementState;
-
-// How many events a focus change has.
-pub fn focus_count(block: &[u8], state: &[u8], st: ElementState) -> usize
-    requires { ⌜ blockOk (now block) ≡ true ⌝ }
-    ensures { λ r. ⌜ r ≡ length (focusEvents (keyboardAt (now (block .entry)) (now (state .entry))) st) ⌝ }
-{
-    let found = focus::focus_keys(block, state, st);
-    found.len
-}
 
 // Straight to the answer area.
 pub fn hand_out_focus(answers: &mut [u8], block: &[u8], state: &[u8], st: ElementState)

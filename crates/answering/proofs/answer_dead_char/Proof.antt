@@ -10,9 +10,9 @@ use borrow.Author.Needs.{needs}
 use Rattle.session.specs.Session.{eventFits}
 use Rattle.session.specs.Area.{decode}
 use Rattle.session.specs.Types.{asEvent, asHeld}
-use Rattle.queue.specs.Room.{IsArea}
-use Rattle.queue.proofs.HeldPress.{can-read, is-read, read-fits}
-use Rattle.answering.proofs.Args.{args}
+use Rattle.sessionarea.specs.Room.{IsArea}
+use Rattle.sessionarea.proofs.HeldPress.{can-read, is-read, read-fits}
+use Rattle.area.proofs.Args.{args}
 use Rattle.answering.proofs.Answered.{completed-fits, dead-room, dead-out, dead-waits}
 use Rattle.answering.proofs.answer_dead_char.Statement.{statement}
 use Rattle.answering.proofs.answer_dead_char.Tie as tie

@@ -5,7 +5,7 @@ use Prim.Native.Nat.{ℕ, _<_}
 use native.Mathlib.Omega.{arith}
 use lib.ListN.{getD}
 use borrow.Author.Needs.{needs}
-use Rattle.answering.proofs.Args.{args}
+use Rattle.area.proofs.Args.{args}
 use Rattle.answering.proofs.Answered.{focus-out, focus-waits, focus-room}
 use Rattle.answering.proofs.answer_focus.Statement.{statement}
 use Rattle.answering.proofs.answer_focus.Tie as tie

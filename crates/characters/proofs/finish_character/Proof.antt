@@ -1,13 +1,13 @@
 -- `characters::finish_character` meets its contract.
 -- Assumes nothing.
 use mathlib.Core.Path.{_≡_, refl, ap, _∙_}
-use mathlib.Core.Bool.{true, false, not}
+use mathlib.Core.Bool.{Bool, true, false, not, _&&_}
 use mathlib.Core.Option.{some, none}
 use Prim.Native.Nat.{ℕ, _<_}
 use native.Mathlib.Omega.{arith}
 use lib.ListN.{getD}
 use borrow.Author.Needs.{needs}
-use borrow.Author.Tests.{not-true, not-false}
+use Rattle.area.proofs.Args.{args}
 use Rattle.session.specs.Session.{character, eventFits}
 use Rattle.session.specs.Area.{decode}
 use Rattle.session.specs.Calls.{moreComing, findWait}
@@ -15,14 +15,13 @@ use Rattle.session.specs.Questions.{isHeld}
 use Rattle.session.specs.Types.{asHeld}
 use Rattle.session.proofs.Fits.{char-fits}
 use Rattle.entryread.specs.declared.Pending.the-variants as case
-use Rattle.entryread.proofs.Places.{held-at}
-use Rattle.queue.specs.Room.{IsArea}
-use Rattle.queue.proofs.Areas.{AreaOf, own-area}
-use Rattle.queue.proofs.HeldPress.{can-read, is-read, read-fits, none-held, one-held}
+use Rattle.sessionarea.specs.Room.{IsArea}
+use Rattle.sessionarea.proofs.Areas.{AreaOf, own-area}
+use Rattle.sessionarea.proofs.HeldPress.{can-read, is-read, read-fits}
 use Rattle.peeked.specs.Peeked.{asPeeked}
 use Rattle.finishing.proofs.Found.{area-here, character-waits}
 use Rattle.finishing.proofs.Finished.{holding, forgotten, same-place, finished}
-use Rattle.finishing.proofs.Ways.{layout-ok, told-more, char-alone, char-more, char-done}
+use Rattle.finishing.proofs.Ways.{layout-ok, told-completes, held-and-last, char-dropped, char-done}
 use Rattle.characters.proofs.finish_character.Statement.{statement}
 use Rattle.characters.proofs.finish_character.Tie as tie
 
@@ -38,83 +37,48 @@ area-in c = area-here case.Character _ _ _ _ _ (c .pre)
 waits-in : (c : tie.Start) → findWait (c .args .token .0) (decode (c .args .session .now) .entries) ≡ some character
 waits-in c = character-waits _ _ _ _ _ (c .pre)
 
--- from the test of the held press back to the areas
-abbrev areas : tie.After-header-at → tie.After-slice-known
-areas c = c .before .before .before .before .before
+-- from the test back to the areas
+abbrev areas : tie.After-completes → tie.After-slice-known
+areas c = c .before .before .before .before .before .before
 
-absent-in : (c : tie.Then1) → c .before .header-at .result .held ≡ false
-absent-in c = not-true (c .before .header-at .result .held) (c .if1 .taken)
+-- the test is of the press that is held and of what was peeked
+abbrev Asked : tie.After-completes → Bool → Type 0
+Asked c v =
+    let a = areas c .before .args in (isHeld (decode (a .session .now) .held) && not (moreComing (asPeeked (a .peeked)))) ≡ v
 
-present-in : (c : tie.Else1) → c .before .header-at .result .held ≡ true
-present-in c = not-false (c .before .header-at .result .held) (c .if1 .left)
+asked-in : (c : tie.After-completes) (v : Bool) → c .completes .result ≡ v → Asked c v
+asked-in c v e =
+    told-completes _ (areas c .before .args .peeked) (args (c .completes) .0) (args (c .completes) .1 .0) (c .completes .ensures) e (c .before .header-at .ensures .1, refl)
 
-alone-in : (c : tie.Then1) → decode (areas (c .before) .before .args .session .now) .held ≡ none
-alone-in c = none-held (decode (areas (c .before) .before .args .session .now) .held) _ (c .before .header-at .ensures .1) (ap not (absent-in c))
-
-held-in : (c : tie.Else1) → isHeld (decode (areas (c .before) .before .args .session .now) .held) ≡ true
-held-in c = one-held (decode (areas (c .before) .before .args .session .now) .held) _ (c .before .header-at .ensures .1) (ap not (present-in c))
-
-more-in : (c : tie.Then2) → moreComing (asPeeked (areas (c .before .before .before) .before .args .peeked)) ≡ true
-more-in c = told-more (c .before .more-coming .ensures) (c .if2 .taken) refl
-
-last-in : (c : tie.Else2) → moreComing (asPeeked (areas (c .before .before .before) .before .args .peeked)) ≡ false
-last-in c = told-more (c .before .more-coming .ensures) (c .if2 .left) refl
+both-in :
+    (c : tie.Then1) →
+    let a = areas (c .before) .before .args in (isHeld (decode (a .session .now) .held) ≡ true) × (moreComing (asPeeked (a .peeked)) ≡ false)
+both-in c =
+    let a = areas (c .before) .before .args in
+    held-and-last (decode (a .session .now) .held) (moreComing (asPeeked (a .peeked))) (asked-in (c .before) true (c .if1 .taken))
 
 -- the last one: from what was read of the held press back to that test
-abbrev last : tie.After-held-at → tie.Else2
+abbrev last : tie.After-held-at → tie.Then1
 last c = c .before .before .before
 
 abbrev start : tie.After-held-at → tie.After-slice-known
-start c = areas (last c .before .before .before)
+start c = areas (last c .before)
 
 -- the press that was held is what was read
 read-in : (c : tie.After-held-at) → decode (start c .before .args .session .now) .held ≡ some (asHeld (c .held-at .result))
-read-in c = is-read _ (area-in (start c .before)) (held-in (last c .before .before)) _ (c .held-at .ensures .0)
+read-in c = is-read _ (area-in (start c .before)) (both-in (last c) .0) _ (c .held-at .ensures .0)
 
 -- and none is held any more
 forgets-in : (c : tie.After-keep-held) → AreaOf (holding (decode (start (c .before .before .before) .before .args .session .now)) none) (c .keep-held .last .0)
 forgets-in c =
     let known = start (c .before .before .before) in
-    forgotten _ (own-area _ (bytes-in known) (area-in (known .before))) (c .keep-held .ensures) refl
+    forgotten _ (args (c .keep-held) .1 .0) (own-area _ (bytes-in known) (area-in (known .before))) (c .keep-held .ensures) refl
 
 header-at-requires : tie.Need-header-at-requires
 header-at-requires c κs = search needs
 
-remove-pending-requires : tie.Need-remove-pending-requires
-remove-pending-requires c κs = search needs
-
-same-length : tie.Need-same-length
-same-length c = search needs
-
-same-length-2 : tie.Need-same-length-2
-same-length-2 c = search needs
-
-returns : tie.Need-returns
-returns c =
-    let removed = c .before .before .before .before in
-    let test = removed .before .before .before in
-    finished _ _ _ _ _ _ (char-alone _ _ _ _ (waits-in (areas (test .before) .before)) (alone-in test)) _ refl
-    (removed .remove-pending .ensures .0) (removed .remove-pending .ensures .1)
-
-more-coming-requires : tie.Need-more-coming-requires
-more-coming-requires c κs = search needs
-
-remove-pending-requires-2 : tie.Need-remove-pending-requires-2
-remove-pending-requires-2 c κs = search needs
-
-same-length-3 : tie.Need-same-length-3
-same-length-3 c = search needs
-
-same-length-4 : tie.Need-same-length-4
-same-length-4 c = search needs
-
-returns-2 : tie.Need-returns-2
-returns-2 c =
-    let removed = c .before .before .before .before in
-    let test = removed .before .before .before in
-    let one = test .before .before in
-    finished _ _ _ _ _ _ (char-more _ _ _ _ (waits-in (areas (one .before) .before)) _ (held-at _ (held-in one)) (more-in test)) _ refl
-    (removed .remove-pending2 .ensures .0) (removed .remove-pending2 .ensures .1)
+completes-requires : tie.Need-completes-requires
+completes-requires c κs = search needs
 
 sub-held-at : tie.Need-sub-held-at
 sub-held-at c = search needs
@@ -126,9 +90,7 @@ part-held-at-end : tie.Need-part-held-at-end
 part-held-at-end c = search needs
 
 held-at-requires : tie.Need-held-at-requires
-held-at-requires c κs =
-    let one = c .before .before .before .before in
-    can-read _ (area-in (areas (one .before) .before)) (held-in one)
+held-at-requires c κs = let then = c .before .before in can-read _ (area-in (areas (then .before) .before)) (both-in then .0)
 
 char-event-requires : tie.Need-char-event-requires
 char-event-requires c κs = search needs
@@ -145,38 +107,46 @@ complete-pending-requires c κs =
     let p = known .before .pre in
     let y = forgets-in kept in
     let z = same-place (decode (known .before .args .session .now)) none _ _ y (p .found) (p .within) in
-    let f = read-fits _ (area-in (known .before)) (held-in (last read .before .before)) (bytes-in known) _ (read .held-at .ensures .0) in
-    (y .area, p .answers, z .0, z .1, made .char-event .ensures .1, ap eventFits (made .char-event .ensures .0) ∙ char-fits _ _ (layout-ok _ (known .before .args .state .now) (block-in (last read .before .before .before .before .before .before)) (p .block-ok)) (f .1) (f .0))
+    let f = read-fits _ (area-in (known .before)) (both-in (last read) .0) (bytes-in known) _ (read .held-at .ensures .0) in
+    (y .area, p .answers, z .0, z .1, made .char-event .ensures .1, ap eventFits (made .char-event .ensures .0) ∙ char-fits _ _ (layout-ok _ (known .before .args .state .now) (block-in (last read .before .before .before .before .before)) (p .block-ok)) (f .1) (f .0))
 
-same-length-5 : tie.Need-same-length-5
-same-length-5 c = search needs
+same-length : tie.Need-same-length
+same-length c = search needs
 
-same-length-6 : tie.Need-same-length-6
-same-length-6 c = search needs
+same-length-2 : tie.Need-same-length-2
+same-length-2 c = search needs
 
-returns-3 : tie.Need-returns-3
-returns-3 c =
+returns : tie.Need-returns
+returns c =
     let completed = c .before .before .before .before in
     let kept = completed .before .before .before .before .before in
     let made = kept .before .before in
     let read = made .before in
-    finished _ _ _ _ _ _ (char-done _ _ _ _ (waits-in (start read .before)) _ (read-in read) (last-in (last read)) (made .char-event .ensures .0)) _
+    finished _ _ _ _ _ _ (char-done _ _ _ _ (waits-in (start read .before)) _ (read-in read) (both-in (last read) .1) (made .char-event .ensures .0)) _
     (forgets-in kept .back) (completed .complete-pending .ensures .0) (completed .complete-pending .ensures .1)
+
+remove-pending-requires : tie.Need-remove-pending-requires
+remove-pending-requires c κs = search needs
+
+same-length-3 : tie.Need-same-length-3
+same-length-3 c = search needs
+
+same-length-4 : tie.Need-same-length-4
+same-length-4 c = search needs
+
+returns-2 : tie.Need-returns-2
+returns-2 c =
+    let removed = c .before .before .before .before in
+    let test = removed .before .before .before in
+    finished _ _ _ _ _ _ (char-dropped _ _ _ _ (waits-in (areas (test .before) .before)) (asked-in (test .before) false (test .if1 .left))) _ refl
+    (removed .remove-pending .ensures .0) (removed .remove-pending .ensures .1)
 
 pub finish-character-spec : {M : Type 1} → statement M
 finish-character-spec =
     tie.close
     (tie.spec
     header-at-requires
-    remove-pending-requires
-    same-length
-    same-length-2
-    returns
-    more-coming-requires
-    remove-pending-requires-2
-    same-length-3
-    same-length-4
-    returns-2
+    completes-requires
     sub-held-at
     part-held-at-start
     part-held-at-end
@@ -184,6 +154,10 @@ finish-character-spec =
     char-event-requires
     keep-held-requires
     complete-pending-requires
-    same-length-5
-    same-length-6
-    returns-3)
+    same-length
+    same-length-2
+    returns
+    remove-pending-requires
+    same-length-3
+    same-length-4
+    returns-2)

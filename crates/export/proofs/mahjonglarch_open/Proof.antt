@@ -2,6 +2,7 @@
 -- Assumes nothing.
 use mathlib.Core.Path.{refl}
 use borrow.Author.Needs.{needs}
+use Rattle.message.specs.Calls.{message}
 use Rattle.export.proofs.Kept.{open-says}
 use Rattle.export.proofs.mahjonglarch_open.Statement.{statement}
 use Rattle.export.proofs.mahjonglarch_open.Tie as tie
@@ -25,7 +26,10 @@ same-length-2 : tie.Need-same-length-2
 same-length-2 c = search needs
 
 returns : tie.Need-returns
-returns c = open-says _ _ _ _ (c .before .before .before .before .before .before .before .«open» .ensures) refl (c .open-number .ensures) (c .before .before .token-number .ensures) (c .before .result-number .ensures)
+returns c =
+    let called = c .before .before .before .before .before .before .before in
+    let a = called .before .before .before .before .before .before .before .args in
+    open-says _ _ _ (message (a .kind) (a .wparam) (a .lparam)) (called .«open» .ensures) refl refl (c .open-number .ensures) (c .before .before .token-number .ensures) (c .before .result-number .ensures)
 
 pub mahjonglarch-open-spec : {M : Type 1} → statement M
 mahjonglarch-open-spec =

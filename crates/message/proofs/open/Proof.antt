@@ -6,7 +6,8 @@ use borrow.Author.Needs.{needs}
 use Rattle.session.specs.Area.{decode}
 use Rattle.session.specs.Questions.{firstNo, messageQuestions}
 use Rattle.focus.specs.Written.{keyboardAt}
-use Rattle.questions.specs.Asked.{asNo, asSort}
+use Rattle.questions.specs.Asked.{asNo}
+use Rattle.sorts.specs.Sorts.{asSort}
 use Rattle.message.specs.Calls.{message}
 use Rattle.message.proofs.Asked.{asked-area, asked-answers, asked-block, asked-passes, told-asked, open-early, open-late, open-passed}
 use Rattle.message.proofs.open.Statement.{statement}

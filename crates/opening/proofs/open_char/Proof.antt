@@ -13,8 +13,8 @@ use Rattle.session.specs.Session.{heldFits}
 use Rattle.session.specs.Area.{decode}
 use Rattle.session.specs.Questions.{isHeld}
 use Rattle.session.specs.Types.{asHeld}
-use Rattle.queue.specs.Room.{IsArea}
-use Rattle.queue.proofs.HeldPress.{can-read, is-read, read-fits, none-held, one-held}
+use Rattle.sessionarea.specs.Room.{IsArea}
+use Rattle.sessionarea.proofs.HeldPress.{can-read, is-read, read-fits, none-held, one-held}
 use Rattle.opening.proofs.Opened.{units-count, more-fits, char-room, char-opened, char-unheld}
 use Rattle.opening.proofs.open_char.Statement.{statement}
 use Rattle.opening.proofs.open_char.Tie as tie

@@ -5,7 +5,7 @@ use native.Mathlib.Omega.{arith}
 use lib.ListN.{length-drop}
 use borrow.Author.Needs.{needs}
 use Rattle.area.proofs.Splice.{part-rest}
-use Rattle.pending.proofs.Resolved.{count-most}
+use Rattle.sessionarea.proofs.Kept.{count-most}
 use Rattle.pending.proofs.Search.{counted}
 use Rattle.pending.proofs.open_count.Statement.{statement}
 use Rattle.pending.proofs.open_count.Tie as tie

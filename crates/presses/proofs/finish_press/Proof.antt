@@ -7,6 +7,7 @@ use Prim.Native.Nat.{ℕ, _<_}
 use native.Mathlib.Omega.{arith}
 use lib.ListN.{getD}
 use borrow.Author.Needs.{needs}
+use Rattle.area.proofs.Args.{args}
 use Rattle.session.specs.Limits.{ENTRIES-MOST}
 use Rattle.session.specs.Session.{press, eventFits, heldFits, unitsWithin}
 use Rattle.session.specs.Area.{decode}
@@ -15,7 +16,7 @@ use Rattle.session.specs.Calls.{holds, findWait}
 use Rattle.session.specs.Types.{asHeld}
 use Rattle.session.proofs.Fits.{held-fits, press-fits}
 use Rattle.entryread.specs.declared.Pending.the-variants as case
-use Rattle.queue.proofs.Areas.{AreaOf, own-area, held-area}
+use Rattle.sessionarea.proofs.Areas.{AreaOf, own-area, held-area}
 use Rattle.focus.specs.Written.{keyboardAt}
 use Rattle.peeked.specs.Peeked.{asPeeked}
 use Rattle.finishing.proofs.Found.{few, area-here, press-reads, press-waits, press-range}
@@ -103,7 +104,7 @@ sets-in c =
 forgets-in :
     (c : tie.After-keep-held) →
     AreaOf (holding (decode (areas (c .before .before .before .before) .before .args .session .now)) none) (c .keep-held .last .0)
-forgets-in c = forgotten _ (own-in (areas (c .before .before .before .before))) (c .keep-held .ensures) refl
+forgets-in c = forgotten _ (args (c .keep-held) .1 .0) (own-in (areas (c .before .before .before .before))) (c .keep-held .ensures) refl
 
 -- ---- the needs
 

@@ -6,7 +6,8 @@ use native.Mathlib.Omega.{arith}
 use lib.ListN.{length}
 use Rattle.session.specs.Types.{asEvent}
 use Rattle.session.proofs.Writes.{Handing}
-use Rattle.synthesize.proofs.Events.{layout-ok, eventsTo, handed-length, handed-none, handed-next, handed-all, noted-here, made-here}
+use Rattle.focus.proofs.Noted.{eventsTo, noted-here, made-here}
+use Rattle.synthesize.proofs.Events.{layout-ok, handed-length, handed-none, handed-next, handed-all}
 use Rattle.synthesize.proofs.hand_out_focus.Statement.{statement}
 use Rattle.synthesize.proofs.hand_out_focus.Tie as tie
 

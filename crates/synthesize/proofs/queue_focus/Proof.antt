@@ -5,7 +5,8 @@ use mathlib.Core.Path.{_≡_, refl, sym, _∙_}
 use Prim.Native.Nat.{_-_, _≤_}
 use native.Mathlib.Omega.{arith}
 use Rattle.session.specs.Types.{asEvent}
-use Rattle.synthesize.proofs.Events.{layout-ok, event-fits, noted-here, made-here}
+use Rattle.focus.proofs.Noted.{noted-here, made-here}
+use Rattle.synthesize.proofs.Events.{layout-ok, event-fits}
 use Rattle.synthesize.proofs.Queued.{QueuedTo, queued-length, none-queued, next-room, next-queued, all-queued}
 use Rattle.synthesize.proofs.queue_focus.Statement.{statement}
 use Rattle.synthesize.proofs.queue_focus.Tie as tie

@@ -1,0 +1,2 @@
+mod HeldField
+mod FreshArea

@@ -1,0 +1,26 @@
+-- `heldpress::set_held` meets its contract.
+-- Assumes nothing.
+use mathlib.Core.Path.{refl}
+use mathlib.Core.Option.{some}
+use native.Mathlib.Omega.{arith}
+use borrow.Author.Needs.{needs}
+use Rattle.session.specs.Types.{asHeld}
+use Rattle.heldpress.proofs.HeldSet.{held-fits, held-set}
+use Rattle.heldpress.proofs.set_held.Statement.{statement}
+use Rattle.heldpress.proofs.set_held.Tie as tie
+
+put-some-held-requires : tie.Need-put-some-held-requires
+put-some-held-requires c κs = search needs
+
+same-length : tie.Need-same-length
+same-length c = search needs
+
+returns : tie.Need-returns
+returns c =
+    let start = c .before .before .before .before .before in
+    let a = start .args in
+    held-set (a .area .now) (λ i. omega (arith, c .before .before .before .before .slice-known .given i)) (start .pre .0) (some (asHeld (a .h)))
+    (held-fits (a .h) (start .pre .2) (start .pre .3)) (c .before .before .put-some-held .ensures) refl
+
+pub set-held-spec : {M : Type 1} → statement M
+set-held-spec = tie.close (tie.spec put-some-held-requires same-length returns)

@@ -1,0 +1,4 @@
+pub mod Kept
+pub mod Sessions
+pub mod Areas
+pub mod HeldPress
