@@ -26,8 +26,8 @@ pub fn finish_character(
         let h = recordread::held_at(&session[3..]);
         let e = charevent::char_event(block, state, h);
         heldpress::keep_held(session, false);
-        drain::complete_pending(session, answers, place, token, e);
+        eventqueue::complete_pending(session, answers, place, token, e);
         return;
     }
-    drain::remove_pending(session, answers, place, token);
+    eventqueue::remove_pending(session, answers, place, token);
 }

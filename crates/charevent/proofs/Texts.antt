@@ -17,7 +17,7 @@ use Rattle.keys.specs.declared.KeyText.{KeyText}
 use Rattle.keys.specs.declared.KeyText.the-variants.{Nothing, Own, Byte}
 use Rattle.session.specs.Limits.{TEXT-MOST, KEY-TEXT-MOST}
 use Rattle.session.specs.Session.{fullKeyFits, textFits}
-use Rattle.keyevent.proofs.Texts.{no-bytes, some-bytes}
+use Rattle.typedkey.proofs.Texts.{no-bytes, some-bytes}
 use Rattle.session.specs.Types.{asBytes, asText, asKey}
 use Rattle.session.specs.declared.Text.{Text}
 use Rattle.session.specs.declared.TextKey.{TextKey}

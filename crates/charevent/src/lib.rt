@@ -69,7 +69,7 @@ fn last_text(block: &[u8], state: &[u8], h: HeldPress) -> Text
         return key_text(k);
     }
     let units = h.units;
-    keyevent::typed_text(units, h.len)
+    typedkey::typed_text(units, h.len)
 }
 
 // What the last character message completes.
@@ -79,7 +79,7 @@ pub fn char_event(block: &[u8], state: &[u8], h: HeldPress) -> KeyEvent
 {
     let units = h.units;
     let text = last_text(block, state, h);
-    let all = keyevent::typed_text(units, h.len);
+    let all = typedkey::typed_text(units, h.len);
     keyevent::finalize(h, text, all)
 }
 

@@ -1,3 +1,2 @@
-mod Copied
-mod Drained
-mod Handed
+pub mod Copied
+pub mod Drained

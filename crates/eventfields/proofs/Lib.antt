@@ -1,4 +1,2 @@
-pub mod Place
-mod Fields
-mod Left
-pub mod Back
+pub mod Fields
+pub mod Put

@@ -103,7 +103,7 @@ pub extern "C" fn mahjonglarch_finish(
 pub extern "C" fn mahjonglarch_event_count(answers: &[u8]) -> u32
     ensures { λ r. ⌜ r ≡ countOf (now (answers .entry)) ⌝ }
 {
-    if !eventfields::is_answer(answers) {
+    if !answerevents::is_answer(answers) {
         return NONE;
     }
     area::get_u16(answers, 0) as u32
@@ -115,7 +115,7 @@ pub extern "C" fn mahjonglarch_event_count(answers: &[u8]) -> u32
 pub extern "C" fn mahjonglarch_event(answers: &[u8], i: u32, fields: &mut [u32]) -> u32
     ensures { λ r. ⌜ _≡_ {A = ℕ × List ℕ} (r, now (fields .exit)) (fieldsLeft (eventAt (now (answers .entry)) i) (now (fields .entry))) ⌝ }
 {
-    if eventfields::read_event(answers, i, fields) {
+    if answerevents::read_event(answers, i, fields) {
         0
     } else {
         1 // no such event
@@ -134,5 +134,5 @@ pub extern "C" fn mahjonglarch_event_text(
 ) -> u32
     ensures { λ r. ⌜ _≡_ {A = ℕ × List ℕ} (r, now (text .exit)) (textLeft (textAt (eventAt (now (answers .entry)) i) which) (now (text .entry))) ⌝ }
 {
-    eventfields::read_text(answers, i, which, text)
+    answerevents::read_text(answers, i, which, text)
 }

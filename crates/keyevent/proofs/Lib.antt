@@ -1,4 +1,1 @@
-pub mod Texts
-mod Keys
 mod Events
-mod Units

@@ -1,85 +1,18 @@
-// tao's PartialKeyEventInfo::finalize: the events that presses and releases become, and the units of a held press.
+// tao's PartialKeyEventInfo::finalize: the events that presses and releases become.
 ghost use mathlib.Core.Path.{_≡_};
-ghost use mathlib.Core.List.{[], _∷_};
 ghost use mathlib.Core.Option.{none};
-ghost use Prim.Native.Nat.{_+_, _≤_};
-ghost use lib.ListN.{length, take};
-ghost use Rattle.text.specs.Message.{charUnits};
+ghost use Prim.Native.Nat.{_≤_};
 ghost use Rattle.session.specs.Limits.{UNITS-MOST, TEXT-MOST};
-ghost use Rattle.session.specs.Builder.{withUnits, typedText, typedKey, finalize, pressEvent, deadCharEvent, releaseEvent};
-ghost use Rattle.session.specs.Types.{asText, asKey, asInfo, asHeld, asEvent, InfoLens, EventLens};
+ghost use Rattle.session.specs.Builder.{finalize, pressEvent, deadCharEvent, releaseEvent};
+ghost use Rattle.session.specs.Types.{asText, asInfo, asHeld, asEvent, InfoLens, EventLens};
 ghost use Rattle.keyevent.specs.Made.{made};
 use keycode::KeyCode;
-use keys::Key;
-use keys::NativeKeyCode;
 use session::ElementState;
 use session::HeldPress;
 use session::KeyEvent;
 use session::PartialKeyEventInfo;
 use session::Text;
 use session::TextKey;
-
-// No text.
-fn no_text() -> Text
-    ensures { λ r. ⌜ (asText r ≡ none) × (r .len ≡ 0) ⌝ }
-{
-    Text {
-        bytes: [0u8; 48],
-        len: 0,
-    }
-}
-
-// The text of the units, or none.
-pub fn typed_text(units: [u16; 16], len: u8) -> Text
-    requires { ⌜ len ≤ UNITS-MOST ⌝ }
-    ensures { λ r. ⌜ (asText r ≡ typedText (take len units)) × (r .len ≤ TEXT-MOST) ⌝ }
-{
-    let n = len as usize;
-    let none = no_text();
-    let t = utf16::utf16_text(&units[0..n]);
-    if !t.valid {
-        return none;
-    }
-    let count = t.len as u8;
-    let bytes = t.bytes;
-    Text { bytes, len: count }
-}
-
-// The logical key of a press whose typed text may become it.
-fn typed_key(layout: TextKey, scancode: u16, text: Text) -> TextKey
-    requires { ⌜ (layout .text .len ≤ TEXT-MOST) × (text .len ≤ TEXT-MOST) ⌝ }
-    ensures { λ r. ⌜ (asKey r ≡ typedKey (asKey layout) scancode (asText text)) × (r .text .len ≤ TEXT-MOST) ⌝ }
-{
-    let n = text.len as usize;
-    if n == 0 {
-        return TextKey {
-            key: Key::Unidentified(NativeKeyCode::Windows(scancode)),
-            text,
-        };
-    }
-    let bytes = text.bytes;
-    if pieces::several_pieces(&bytes[0..n]) {
-        return layout;
-    }
-    TextKey {
-        key: Key::Character,
-        text,
-    }
-}
-
-// The logical key of a press with its text.
-fn logical_key(h: HeldPress, text: Text) -> TextKey
-    requires { ⌜ InfoLens (h .info) × (text .len ≤ TEXT-MOST) ⌝ }
-    ensures { λ r. ⌜ (asKey r ≡ finalize (asHeld h) (asText text) none .logicalKey) × (r .text .len ≤ TEXT-MOST) ⌝ }
-{
-    let info = h.info;
-    let layout = info.logical_key;
-    let mark = h.mark;
-    if mark {
-        return typed_key(layout, info.scancode, text);
-    }
-    layout
-}
 
 // The event of a key that is pressed or released.
 fn event_of(
@@ -114,7 +47,7 @@ pub fn finalize(h: HeldPress, text: Text, all: Text) -> KeyEvent
 {
     let info = h.info;
     let code = lookup::keycode_from_scancode(info.scancode);
-    let key = logical_key(h, text);
+    let key = typedkey::logical_key(h, text);
     event_of(info, code, key, ElementState::Pressed, text, all)
 }
 
@@ -123,7 +56,7 @@ pub fn press_event(h: HeldPress) -> KeyEvent
     requires { ⌜ InfoLens (h .info) ⌝ }
     ensures { λ r. ⌜ (asEvent r ≡ pressEvent (asHeld h)) × EventLens r ⌝ }
 {
-    let none = no_text();
+    let none = typedkey::no_text();
     finalize(h, none, none)
 }
 
@@ -133,8 +66,8 @@ pub fn dead_char_event(h: HeldPress) -> KeyEvent
     ensures { λ r. ⌜ (asEvent r ≡ deadCharEvent (asHeld h)) × EventLens r ⌝ }
 {
     let units = h.units;
-    let none = no_text();
-    let typed = typed_text(units, h.len);
+    let none = typedkey::no_text();
+    let typed = typedkey::typed_text(units, h.len);
     finalize(h, none, typed)
 }
 
@@ -145,37 +78,6 @@ pub fn release_event(n: PartialKeyEventInfo) -> KeyEvent
 {
     let code = lookup::keycode_from_scancode(n.scancode);
     let key = n.logical_key;
-    let none = no_text();
+    let none = typedkey::no_text();
     event_of(n, code, key, ElementState::Released, none, none)
-}
-
-// A held press with one unit more.
-fn with_unit(h: HeldPress, unit: u16) -> HeldPress
-    requires { ⌜ h .len + 1 ≤ UNITS-MOST ⌝ }
-    ensures { λ r. ⌜ (asHeld r ≡ withUnits (asHeld h) (unit ∷ [])) × (r .info ≡ h .info) × (r .len ≡ h .len + 1) ⌝ }
-{
-    let mut units = h.units;
-    let n = h.len as usize;
-    units[n] = unit;
-    let info = h.info;
-    HeldPress {
-        info,
-        vkey: h.vkey,
-        mark: h.mark,
-        units,
-        len: h.len + 1,
-    }
-}
-
-// A held press with the units of a character message added.
-pub fn with_units(h: HeldPress, wparam: u64) -> HeldPress
-    requires { ⌜ h .len + length (charUnits wparam) ≤ UNITS-MOST ⌝ }
-    ensures { λ r. ⌜ (asHeld r ≡ withUnits (asHeld h) (charUnits wparam)) × (r .info ≡ h .info) × (r .len ≡ h .len + length (charUnits wparam)) ⌝ }
-{
-    let added = text::char_units(wparam);
-    let first = with_unit(h, added.first);
-    if added.len == 1 {
-        return first;
-    }
-    with_unit(first, added.second)
 }

@@ -68,7 +68,7 @@ pub fn open_char(session: &mut [u8], answers: &mut [u8], wparam: u64) -> OpenAns
         return open_none(answers);
     }
     let held = recordread::held_at(&session[3..]);
-    let more = keyevent::with_units(held, wparam);
+    let more = utf16parts::with_units(held, wparam);
     heldpress::set_held(session, more);
     let token = queue::add_character(session);
     answers::no_events(answers);

@@ -26,14 +26,14 @@ pub fn finish_press(
     let h = partial::press(block, state, p.vkey, p.lparam);
     if peeked::holds(peeked) {
         heldpress::set_held(session, h);
-        drain::remove_pending(session, answers, place, token);
+        eventqueue::remove_pending(session, answers, place, token);
         return;
     }
     heldpress::keep_held(session, false);
     if peeked::is_fake(block, h.info, peeked) {
-        drain::remove_pending(session, answers, place, token);
+        eventqueue::remove_pending(session, answers, place, token);
         return;
     }
     let e = keyevent::press_event(h);
-    drain::complete_pending(session, answers, place, token, e);
+    eventqueue::complete_pending(session, answers, place, token, e);
 }

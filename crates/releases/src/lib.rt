@@ -24,9 +24,9 @@ pub fn finish_release(
     let at = 109 + 199 * place + 5;
     let info = recordread::info_at(&session[at..]);
     if peeked::is_fake(block, info, peeked) {
-        drain::remove_pending(session, answers, place, token);
+        eventqueue::remove_pending(session, answers, place, token);
         return;
     }
     let e = keyevent::release_event(info);
-    drain::complete_pending(session, answers, place, token, e);
+    eventqueue::complete_pending(session, answers, place, token, e);
 }

@@ -24,7 +24,7 @@ use Rattle.session.specs.declared.TextKey.{TextKey}
 use Rattle.session.specs.declared.ElementState.{ElementState}
 use Rattle.session.specs.declared.ElementState.the-variants.{Pressed, Released}
 use Rattle.session.specs.declared.KeyEvent.{KeyEvent}
-use Rattle.keyevent.proofs.Texts.{no-bytes}
+use Rattle.typedkey.proofs.Texts.{no-bytes}
 use Rattle.focus.specs.Written.{keyboardAt}
 
 -- ---- focus_text

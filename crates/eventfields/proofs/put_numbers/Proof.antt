@@ -4,7 +4,7 @@ use Prim.Native.Nat.{_-_}
 use lib.ListN.{length}
 use mathlib.Core.Path.{_≡_}
 use borrow.Author.Needs.{needs}
-use Rattle.eventfields.proofs.Left.{Put, put-start, put-next, put-end}
+use Rattle.eventfields.proofs.Put.{Put, put-start, put-next, put-end}
 use Rattle.eventfields.proofs.put_numbers.Statement.{statement}
 use Rattle.eventfields.proofs.put_numbers.Tie as tie
 

@@ -1,0 +1,3 @@
+pub mod Place
+mod Left
+pub mod Back
