@@ -1,3 +1,2 @@
 mod Texts
 mod Last
-mod Fake

@@ -1,22 +1,19 @@
-// What the last character message completes, and tao's is_current_fake.
+// What the last character message completes.
 ghost use mathlib.Core.Path.{_≡_};
 ghost use mathlib.Core.Bool.{true, not, _&&_};
-ghost use mathlib.Core.List.{List, []};
-ghost use mathlib.Core.Option.{some};
-ghost use Prim.Native.Nat.{ℕ, _≤_};
+ghost use Prim.Native.Nat.{_≤_};
 ghost use Rattle.area.specs.Pick.{pick};
-ghost use Rattle.keys.specs.Text.{full, toText};
+ghost use Rattle.keys.specs.Text.{toText};
 ghost use Rattle.block.specs.Block.{blockOk, mapsOf};
 ghost use Rattle.session.specs.Limits.{UNITS-MOST, TEXT-MOST, KEY-TEXT-MOST};
 ghost use Rattle.session.specs.Session.{fullKeyFits};
-ghost use Rattle.session.specs.Builder.{lastText, charEvent, isControl, fake};
-ghost use Rattle.session.specs.Types.{asText, asKey, asInfo, asHeld, asEvent, InfoLens, EventLens};
+ghost use Rattle.session.specs.Builder.{lastText, charEvent};
+ghost use Rattle.session.specs.Types.{asText, asKey, asHeld, asEvent, InfoLens, EventLens};
 use keys::Key;
 use keys::KeyText;
 use lookup::WindowsModifiers;
 use session::HeldPress;
 use session::KeyEvent;
-use session::PartialKeyEventInfo;
 use session::Text;
 use session::TextKey;
 
@@ -81,40 +78,4 @@ pub fn char_event(block: &[u8], state: &[u8], h: HeldPress) -> KeyEvent
     let text = last_text(block, state, h);
     let all = typedkey::typed_text(units, h.len);
     keyevent::finalize(h, text, all)
-}
-
-fn is_control(key: Key) -> bool
-    ensures { λ r. ⌜ r ≡ isControl (full key []) ⌝ }
-{
-    match key {
-        Key::Named(n) => n == keys::CONTROL,
-        Key::Character => false,
-        Key::Unidentified(_) => false,
-        Key::Dead => false,
-        Key::DeadChar(_) => false,
-    }
-}
-
-// tao's is_current_fake: on an AltGr layout, Control before the right Alt key, whose lParam was peeked.
-pub fn is_current_fake(
-    block: &[u8],
-    n: PartialKeyEventInfo,
-    kind: u32,
-    wparam: u64,
-    lparam: u64,
-) -> bool
-    requires { ⌜ blockOk (now block) ≡ true ⌝ }
-    ensures { λ r. ⌜ ((state : List ℕ) → r ≡ fake (record { layout = mapsOf (now (block .entry)); keyState = state }) (asInfo n) (some (record { kind = kind; wparam = wparam; lparam = lparam }))) ⌝ }
-{
-    let logical = n.logical_key;
-    let key = logical.key;
-    let flag = lookup::keyboard_layout::has_alt_graph(block);
-    let control = is_control(key);
-    if flag {
-        if control {
-            return lookup::ex_scancode_from_lparam(lparam) == 0xE038;
-        }
-        return false;
-    }
-    false
 }

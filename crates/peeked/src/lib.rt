@@ -77,7 +77,7 @@ pub fn is_fake(block: &[u8], info: PartialKeyEventInfo, peeked: Peeked) -> bool
     match peeked {
         Peeked::Nothing => false, // no right Alt key behind it
         Peeked::Message(kind, wparam, lparam) => {
-            charevent::is_current_fake(block, info, kind, wparam, lparam)
+            fakekey::is_current_fake(block, info, kind, wparam, lparam)
         }
     }
 }

@@ -1,10 +1,10 @@
--- `charevent::is_control` meets its contract.
+-- `fakekey::is_control` meets its contract.
 -- Assumes nothing.
 use Rattle.keys.specs.Text.{full}
 use Rattle.session.specs.Builder.{isControl}
-use Rattle.charevent.proofs.Fake.{told}
-use Rattle.charevent.proofs.is_control.Statement.{statement}
-use Rattle.charevent.proofs.is_control.Tie as tie
+use Rattle.fakekey.proofs.Fake.{told}
+use Rattle.fakekey.proofs.is_control.Statement.{statement}
+use Rattle.fakekey.proofs.is_control.Tie as tie
 
 enum-known-key : tie.Need-enum-known-key
 enum-known-key c = c .match .keys1

@@ -1,9 +1,9 @@
--- `charevent::is_current_fake` meets its contract.
+-- `fakekey::is_current_fake` meets its contract.
 -- Assumes nothing.
 use mathlib.Core.Path.{refl}
-use Rattle.charevent.proofs.Fake.{no-flag, not-control, by-scancode}
-use Rattle.charevent.proofs.is_current_fake.Statement.{statement}
-use Rattle.charevent.proofs.is_current_fake.Tie as tie
+use Rattle.fakekey.proofs.Fake.{no-flag, not-control, by-scancode}
+use Rattle.fakekey.proofs.is_current_fake.Statement.{statement}
+use Rattle.fakekey.proofs.is_current_fake.Tie as tie
 
 has-alt-graph-requires : tie.Need-has-alt-graph-requires
 has-alt-graph-requires c κs = c .before .before .pre
