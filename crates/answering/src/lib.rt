@@ -28,7 +28,7 @@ pub fn answer_dead_char(session: &mut [u8], answers: &mut [u8]) -> OpenAnswer
         answers::one_event(answers, e);
         return OpenAnswer::OpenedNone;
     }
-    queue::add_complete(session, e);
+    completed::add_complete(session, e);
     answers::no_events(answers);
     OpenAnswer::OpenedNone
 }

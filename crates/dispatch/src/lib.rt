@@ -34,7 +34,7 @@ pub fn open_by(
     match sort {
         MessageSort::KeyDown => opening::open_press(session, answers, wparam, lparam),
         MessageSort::KeyUp => opening::open_release(session, answers, block, state, wparam, lparam),
-        MessageSort::Char => opening::open_char(session, answers, wparam),
+        MessageSort::Char => openchar::open_char(session, answers, wparam),
         MessageSort::DeadChar => answering::answer_dead_char(session, answers),
         MessageSort::Focus(st) => answering::answer_focus(session, answers, block, state, st),
         MessageSort::Ignored => opening::open_none(answers),

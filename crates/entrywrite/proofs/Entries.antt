@@ -17,7 +17,7 @@ use Rattle.session.specs.Area.{pressed, info, INFO, WAIT, EVENT, event, wait, e
 use Rattle.session.specs.Types.{asInfo, asEvent, InfoLens}
 use Rattle.session.specs.declared.KeyEvent.{KeyEvent}
 use Rattle.session.specs.declared.PartialKeyEventInfo.{PartialKeyEventInfo}
-use Rattle.fieldwrite.proofs.Parts.{meet}
+use Rattle.fieldwrite.proofs.Parts.{meet, marked}
 use Rattle.recordwrite.proofs.Records.{info-length, pressed-length}
 
 -- ---- zeros
@@ -62,19 +62,6 @@ character-put t =
     ap (λ (r : List ℕ). le 2 t ++ (0 ∷ padded EVENT (1 ∷ 1 ∷ r))) (padded-none INFO)
     ∙ ap (λ (r : List ℕ). le 2 t ++ (0 ∷ r)) (more-zeros EVENT INFO (1 ∷ 1 ∷ []) (omega arith))
 
-complete-put : (t : ℕ) (e : Event) → entry .put (complete t e) ≡ le 2 t ++ (1 ∷ event .put e)
-unfolding entry via pair number either
-complete-put t e = refl
-
--- the token and a mark, before r
-marked :
-    (t at : ℕ) (x : List ℕ) (u a k₁ k₂ : ℕ) (r : List ℕ) {y₁ y₂ z : List ℕ} → y₁ ≡ splice at (le 2 u) x →
-    y₂ ≡ splice k₁ (a ∷ []) y₁ → z ≡ splice k₂ r y₂ → u ≡ t → k₁ ≡ at + 2 → k₂ ≡ at + 3 →
-    z ≡ splice at (le 2 t ++ (a ∷ r)) x
-marked t at x u a k₁ k₂ r {y₁} p₁ p₂ p e f₁ f₂ =
-    meet at 2 k₁ (le 2 u) (a ∷ r) x (length-le 2 u) f₁ p₁ (meet k₁ 1 k₂ (a ∷ []) r y₁ refl (omega arith) p₂ p)
-    ∙ ap (λ (n : ℕ). splice at (le 2 n ++ (a ∷ r)) x) e
-
 pub press-written :
     (t v : ℕ) (l : KeyLParam) (at : ℕ) (x : List ℕ) {u a b w k₁ k₂ k₃ k₄ : ℕ} {m : KeyLParam} {zs y₁ y₂ y₃ y₄ y₅ : List ℕ} →
     y₁ ≡ splice at (le 2 u) x → y₂ ≡ splice k₁ (a ∷ []) y₁ → y₃ ≡ splice k₂ (b ∷ []) y₂ → y₄ ≡ splice k₃ (pressed .put (w, m)) y₃ →
@@ -109,11 +96,3 @@ character-written t at x {u} {a} {b} {d} {k₁} {k₂} {k₃} {k₄} {zs} {y₁}
     marked t at x u a k₁ k₂ (b ∷ d ∷ zs) p₁ p₂
     (meet k₂ 1 k₃ (b ∷ []) (d ∷ zs) y₂ refl (omega arith) p₃ (meet k₃ 1 k₄ (d ∷ []) zs y₃ refl (omega arith) p₄ p₅)) eu f₁ f₂
     ∙ rw (ea, eb, ed, ez) (sym (ap (λ (r : List ℕ). splice at r x) (character-put t)))
-
-pub complete-written :
-    (t : ℕ) (e : KeyEvent) (at : ℕ) (x : List ℕ) {u a k₁ k₂ : ℕ} {m : KeyEvent} {y₁ y₂ y₃ : List ℕ} → y₁ ≡ splice at (le 2 u) x →
-    y₂ ≡ splice k₁ (a ∷ []) y₁ → y₃ ≡ splice k₂ (event .put (asEvent m)) y₂ → u ≡ t → a ≡ 1 → m ≡ e → k₁ ≡ at + 2 → k₂ ≡ at + 3 →
-    y₃ ≡ splice at (entry .put (complete t (asEvent e))) x
-complete-written t e at x {u} {a} {k₁} {k₂} {m} p₁ p₂ p₃ eu ea em f₁ f₂ =
-    marked t at x u a k₁ k₂ (event .put (asEvent m)) p₁ p₂ p₃ eu f₁ f₂
-    ∙ rw (ea, em) (sym (ap (λ (r : List ℕ). splice at r x) (complete-put t (asEvent e))))

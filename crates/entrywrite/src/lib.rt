@@ -1,13 +1,12 @@
-// Writes the entries of the queue: each its token, what it holds, zeros behind. docs/AREAS.md has their offsets.
+// Writes the open entries of the queue: each its token, what it waits with, zeros behind. docs/AREAS.md has their offsets.
 ghost use mathlib.Core.Path.{_≡_};
 ghost use Prim.Native.Nat.{_+_, _≤_, _<_};
 ghost use lib.ListN.{length};
 ghost use Rattle.area.specs.Splice.{splice};
-ghost use Rattle.session.specs.Session.{press, release, character, waiting, complete};
+ghost use Rattle.session.specs.Session.{press, release, character, waiting};
 ghost use Rattle.session.specs.Area.{entry};
-ghost use Rattle.session.specs.Types.{asEvent, asInfo, EventLens, InfoLens};
+ghost use Rattle.session.specs.Types.{asInfo, InfoLens};
 use keystroke::KeyLParam;
-use session::KeyEvent;
 use session::PartialKeyEventInfo;
 use session::PendingMessageToken;
 
@@ -43,13 +42,4 @@ pub fn put_character(s: &mut [u8], at: usize, token: PendingMessageToken)
     area::put_u8(s, at + 3, 1);
     area::put_u8(s, at + 4, 1);
     span::put_zeros(s, at + 5, 194);
-}
-
-pub fn put_complete(s: &mut [u8], at: usize, token: PendingMessageToken, e: KeyEvent)
-    requires { ⌜ (at + 199 ≤ length (now s)) × (token .0 < 65536) × EventLens e ⌝ }
-    ensures { λ _. ⌜ now (s .exit) ≡ splice at (entry .put (complete (token .0) (asEvent e))) (now (s .entry)) ⌝ }
-{
-    area::put_u16(s, at, token.0 as u16);
-    area::put_u8(s, at + 2, 1);
-    eventwrite::put_event(s, at + 3, e);
 }

@@ -1,10 +1,13 @@
 -- Two writes that meet are one, and write a pair.
 -- Assumes nothing.
-use mathlib.Core.Path.{_≡_, ap, _∙_}
-use mathlib.Core.List.{List, _++_}
+use mathlib.Core.Path.{_≡_, refl, ap, _∙_}
+use mathlib.Core.List.{List, [], _∷_, _++_}
 use Prim.Native.Nat.{ℕ, _+_}
+use native.Mathlib.Omega.{arith}
 use lib.ListN.{length, length-append}
+use Rattle.area.specs.Bytes.{le}
 use Rattle.area.specs.Splice.{splice}
+use Rattle.area.proofs.Bytes.{length-le}
 use Rattle.area.proofs.Splice.{chain}
 use Rattle.session.specs.Codec.{Codec, pair}
 
@@ -28,3 +31,12 @@ module _ {A B : Type 0} (X : Codec A) (Y : Codec B) (a : A) (b : B) where
 -- the same write of the same bytes
 pub written-as : (at : ℕ) (x : List ℕ) {b d y : List ℕ} → b ≡ d → y ≡ splice at b x → y ≡ splice at d x
 written-as at x e p = p ∙ ap (λ (t : List ℕ). splice at t x) e
+
+-- the token of an entry and its mark, before r
+pub marked :
+    (t at : ℕ) (x : List ℕ) (u a k₁ k₂ : ℕ) (r : List ℕ) {y₁ y₂ z : List ℕ} → y₁ ≡ splice at (le 2 u) x →
+    y₂ ≡ splice k₁ (a ∷ []) y₁ → z ≡ splice k₂ r y₂ → u ≡ t → k₁ ≡ at + 2 → k₂ ≡ at + 3 →
+    z ≡ splice at (le 2 t ++ (a ∷ r)) x
+marked t at x u a k₁ k₂ r {y₁} p₁ p₂ p e f₁ f₂ =
+    meet at 2 k₁ (le 2 u) (a ∷ r) x (length-le 2 u) f₁ p₁ (meet k₁ 1 k₂ (a ∷ []) r y₁ refl (omega arith) p₂ p)
+    ∙ ap (λ (n : ℕ). splice at (le 2 n ++ (a ∷ r)) x) e

@@ -1,8 +1,8 @@
-// The messages that open: what an open does with them once its questions are passed (tao's KeyEventBuilder::process_message up to the peek).
+// Presses and releases, which open, and what opens nothing: what an open does with them once its questions are passed (tao's
+// KeyEventBuilder::process_message up to the peek).
 ghost use mathlib.Core.Path.{_≡_};
 ghost use mathlib.Core.Bool.{true};
 ghost use mathlib.Core.List.{[]};
-ghost use Prim.Native.Nat.{ℕ};
 ghost use lib.ListN.{length};
 ghost use Rattle.keystroke.specs.LParam.{keyLParam, virtualKey};
 ghost use Rattle.block.specs.Block.{blockOk};
@@ -10,11 +10,11 @@ ghost use Rattle.session.specs.Limits.{AREA};
 ghost use Rattle.session.specs.Session.{press, release};
 ghost use Rattle.session.specs.Area.{decode, encodeAnswer};
 ghost use Rattle.session.specs.Builder.{fromMessage};
-ghost use Rattle.session.specs.Calls.{opening, charOpened};
+ghost use Rattle.session.specs.Calls.{opening};
 ghost use Rattle.session.specs.Answers.{openSaid, noToken};
 ghost use Rattle.focus.specs.Written.{keyboardAt};
 ghost use Rattle.sessionarea.specs.Room.{HasRoom};
-ghost use Rattle.opening.specs.Gives.{Gives, MayChar};
+ghost use Rattle.opening.specs.Gives.{Gives};
 use session::OpenAnswer;
 
 // A press waits for its finish with its virtual key and what its lParam says.
@@ -56,21 +56,4 @@ pub fn open_none(answers: &mut [u8]) -> OpenAnswer
 {
     answers::no_events(answers);
     OpenAnswer::OpenedNone // nothing waits
-}
-
-// A character adds its units to the held press, and waits; without one it is ignored.
-pub fn open_char(session: &mut [u8], answers: &mut [u8], wparam: u64) -> OpenAnswer
-    requires { ⌜ MayChar (now session) wparam × (length (now answers) ≡ AREA) ⌝ }
-    ensures { λ r. ⌜ ((kind lparam : ℕ) → Gives (charOpened (decode (now (session .entry))) (record { kind = kind; wparam = wparam; lparam = lparam }) (decode (now (session .entry)) .held)) r (now (session .exit)) (now (answers .exit))) ⌝ }
-{
-    let h = entryread::header_at(session);
-    if !h.held {
-        return open_none(answers);
-    }
-    let held = recordread::held_at(&session[3..]);
-    let more = utf16parts::with_units(held, wparam);
-    heldpress::set_held(session, more);
-    let token = queue::add_character(session);
-    answers::no_events(answers);
-    OpenAnswer::Opened(token) // the character
 }

@@ -20,7 +20,7 @@ pub fn complete(area: &mut [u8], place: usize, token: PendingMessageToken, e: Ke
     requires { ⌜ IsArea (now area) × (place ≡ placeIn (token .0) (decode (now area) .entries)) × (place < length (decode (now area) .entries)) × EventLens e × (eventFits (asEvent e) ≡ true) ⌝ }
     ensures { λ _. ⌜ now (area .exit) ≡ encode (record { handed = decode (now (area .entry)) .handed; held = decode (now (area .entry)) .held; entries = resolve (token .0) (some (asEvent e)) (decode (now (area .entry)) .entries) }) ⌝ }
 {
-    entrywrite::put_complete(area, 109 + 199 * place, token, e);
+    completewrite::put_complete(area, 109 + 199 * place, token, e);
 }
 
 // The entry at a place, which carries the token, dropped.

@@ -42,7 +42,7 @@ pub fn queue_focus(area: &mut [u8], block: &[u8], state: &[u8], st: ElementState
     let mut i: usize = 0;
     while i < n {
         let event = synthetic::synthetic_event(block, state, st, keys[i]);
-        queue::add_complete(area, event);
+        completed::add_complete(area, event);
         i += 1;
     }
 }

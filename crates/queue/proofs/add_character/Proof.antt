@@ -4,7 +4,7 @@ use mathlib.Core.Path.{refl}
 use native.Mathlib.Omega.{arith}
 use borrow.Author.Needs.{needs}
 use Rattle.session.specs.Session.{character}
-use Rattle.queue.proofs.Added.{opened, character-fits}
+use Rattle.queuetail.proofs.Added.{opened, character-fits}
 use Rattle.queue.proofs.add_character.Statement.{statement}
 use Rattle.queue.proofs.add_character.Tie as tie
 

@@ -4,7 +4,7 @@ use mathlib.Core.Path.{refl}
 use native.Mathlib.Omega.{arith}
 use borrow.Author.Needs.{needs}
 use Rattle.session.specs.Session.{press}
-use Rattle.queue.proofs.Added.{opened, press-fits}
+use Rattle.queuetail.proofs.Added.{opened, press-fits}
 use Rattle.queue.proofs.add_press.Statement.{statement}
 use Rattle.queue.proofs.add_press.Tie as tie
 

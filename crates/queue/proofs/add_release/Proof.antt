@@ -5,7 +5,7 @@ use native.Mathlib.Omega.{arith}
 use borrow.Author.Needs.{needs}
 use Rattle.session.specs.Session.{release}
 use Rattle.session.specs.Types.{asInfo}
-use Rattle.queue.proofs.Added.{opened, release-fits}
+use Rattle.queuetail.proofs.Added.{opened, release-fits}
 use Rattle.queue.proofs.add_release.Statement.{statement}
 use Rattle.queue.proofs.add_release.Tie as tie
 

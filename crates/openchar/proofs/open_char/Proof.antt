@@ -1,4 +1,4 @@
--- `opening::open_char` meets its contract.
+-- `openchar::open_char` meets its contract.
 -- Assumes nothing.
 use mathlib.Core.Path.{_≡_, refl}
 use mathlib.Core.Bool.{true}
@@ -15,9 +15,9 @@ use Rattle.session.specs.Questions.{isHeld}
 use Rattle.session.specs.Types.{asHeld}
 use Rattle.sessionarea.specs.Room.{IsArea}
 use Rattle.sessionarea.proofs.HeldPress.{can-read, is-read, read-fits, none-held, one-held}
-use Rattle.opening.proofs.Opened.{units-count, more-fits, char-room, char-opened, char-unheld}
-use Rattle.opening.proofs.open_char.Statement.{statement}
-use Rattle.opening.proofs.open_char.Tie as tie
+use Rattle.openchar.proofs.Chars.{units-count, more-fits, char-room, char-opened, char-unheld}
+use Rattle.openchar.proofs.open_char.Statement.{statement}
+use Rattle.openchar.proofs.open_char.Tie as tie
 
 area-in : (c : tie.Start) → IsArea (c .args .session .now)
 area-in c = record { size = c .pre .0 .size; passed = c .pre .0 .passed }

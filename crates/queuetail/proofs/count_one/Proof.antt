@@ -1,10 +1,10 @@
--- `queue::count_one` meets its contract.
+-- `queuetail::count_one` meets its contract.
 -- Assumes nothing.
 use mathlib.Core.Path.{refl}
 use borrow.Author.Needs.{needs}
-use Rattle.queue.proofs.Added.{counted}
-use Rattle.queue.proofs.count_one.Statement.{statement}
-use Rattle.queue.proofs.count_one.Tie as tie
+use Rattle.queuetail.proofs.Added.{counted}
+use Rattle.queuetail.proofs.count_one.Statement.{statement}
+use Rattle.queuetail.proofs.count_one.Tie as tie
 
 add-put-u16 : tie.Need-add-put-u16
 add-put-u16 c = search needs

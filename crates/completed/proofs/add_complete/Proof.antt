@@ -1,12 +1,12 @@
--- `queue::add_complete` meets its contract.
+-- `completed::add_complete` meets its contract.
 -- Assumes nothing.
 use mathlib.Core.Path.{refl}
 use native.Mathlib.Omega.{arith}
 use borrow.Author.Needs.{needs}
 use Rattle.session.specs.Types.{asEvent}
-use Rattle.queue.proofs.Added.{completed}
-use Rattle.queue.proofs.add_complete.Statement.{statement}
-use Rattle.queue.proofs.add_complete.Tie as tie
+use Rattle.queuetail.proofs.Added.{completed}
+use Rattle.completed.proofs.add_complete.Statement.{statement}
+use Rattle.completed.proofs.add_complete.Tie as tie
 
 header-at-requires : tie.Need-header-at-requires
 header-at-requires c κs = search needs

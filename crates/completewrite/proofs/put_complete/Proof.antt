@@ -1,10 +1,10 @@
--- `entrywrite::put_complete` meets its contract.
+-- `completewrite::put_complete` meets its contract.
 -- Assumes nothing.
 use mathlib.Core.Path.{refl}
 use borrow.Author.Needs.{needs}
-use Rattle.entrywrite.proofs.Entries.{complete-written}
-use Rattle.entrywrite.proofs.put_complete.Statement.{statement}
-use Rattle.entrywrite.proofs.put_complete.Tie as tie
+use Rattle.completewrite.proofs.Complete.{complete-written}
+use Rattle.completewrite.proofs.put_complete.Statement.{statement}
+use Rattle.completewrite.proofs.put_complete.Tie as tie
 
 cast-put-u16 : tie.Need-cast-put-u16
 cast-put-u16 c = search needs
