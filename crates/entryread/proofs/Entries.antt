@@ -18,7 +18,7 @@ use Rattle.session.specs.Session.{Entry}
 use Rattle.session.specs.Area.{flag, event, info, held, pressed, INFO, WAIT, EVENT, fromWait, wait, entryOf, entry, fromHeld, HELD, heldField, session, decode, sessionOk}
 use Rattle.session.proofs.Area.{held-field-width}
 use Rattle.session.proofs.Codec.{many-count}
-use Rattle.recordread.proofs.Formats.{pair-ok, pair-got, byte-at, flag-at, number-at, number-width, byte-width, flag-width}
+use Rattle.fieldread.proofs.Formats.{pair-ok, pair-got, byte-at, flag-at, number-at, number-width, byte-width, flag-width}
 
 -- ---- an open press
 

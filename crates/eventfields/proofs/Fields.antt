@@ -29,7 +29,7 @@ use Rattle.session.specs.Limits.{TEXT-MOST, KEY-TEXT-MOST}
 use Rattle.session.specs.Codec.{number, checked, via}
 use Rattle.session.specs.Area.{flagNumber, stateNumber, bytesOf, textFrom, textBytes, optText, keyCode, keyTextOk, fullKey, event}
 use Rattle.session.specs.declared.ElementState.the-variants.{Pressed, Released}
-use Rattle.recordread.proofs.Formats.{text-ok, text-got, key-ok, key-got, event-got, EventParts, event-parts}
+use Rattle.fieldread.proofs.Formats.{text-ok, text-got, key-ok, key-got, event-got, EventParts, event-parts}
 use Rattle.recordcheck.proofs.Keys.{text-length, key-parts}
 use Rattle.recordcheck.proofs.Records as records
 use Rattle.eventfields.specs.Events.{fieldsOf, textOf, textPlace}

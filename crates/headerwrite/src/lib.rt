@@ -19,7 +19,7 @@ pub fn put_some_held(s: &mut [u8], at: usize, h: HeldPress)
     ensures { λ _. ⌜ now (s .exit) ≡ splice at (heldField .put (some (asHeld h))) (now (s .entry)) ⌝ }
 {
     area::put_u8(s, at, 1);
-    recordwrite::put_held(s, at + 1, h);
+    heldwrite::put_held(s, at + 1, h);
 }
 
 pub fn put_no_held(s: &mut [u8], at: usize)

@@ -1,2 +1,1 @@
-mod Units
 pub mod Records

@@ -23,7 +23,7 @@ use Rattle.session.specs.Area.{flag, info, held, entry, fromHeld, heldField, se
 use Rattle.session.proofs.Codec.{many-count}
 use Rattle.session.proofs.Area.{held-field-width, entry-width}
 use Rattle.recordcheck.proofs.Tests.{stop-by, next-by, cut}
-use Rattle.sessioncheck.proofs.Order.{Ordered}
+use Rattle.ordercheck.proofs.Order.{Ordered}
 
 -- ---- zeros behind zeros
 

@@ -2,11 +2,10 @@
 ghost use mathlib.Core.Path.{_≡_};
 ghost use mathlib.Core.Bool.{_&&_};
 ghost use Prim.Native.Nat.{_*_, _≤_};
-ghost use lib.Dec.{eqb, leb};
+ghost use lib.Dec.{eqb};
 ghost use lib.ListN.{length};
-ghost use Rattle.session.specs.Limits.{AREA, OPEN-MOST, ENTRIES-MOST};
-ghost use Rattle.session.specs.Session.{rising, firstOpen, openCount};
-ghost use Rattle.session.specs.Codec.{getMany, okMany};
+ghost use Rattle.session.specs.Limits.{AREA, ENTRIES-MOST};
+ghost use Rattle.session.specs.Codec.{okMany};
 ghost use Rattle.session.specs.Area.{entry, heldField, sessionOk};
 
 // ---- an entry
@@ -41,51 +40,6 @@ fn entries_ok(s: &[u8], n: usize) -> bool
         i += 1;
     }
     true
-}
-
-// Whether the tokens rise strictly and stay below the number handed out.
-fn rising_ok(s: &[u8], n: usize, handed: u16) -> bool
-    requires { ⌜ (n ≤ ENTRIES-MOST) × (n * 199 ≤ length (now s)) ⌝ }
-    ensures { λ r. ⌜ r ≡ rising 0 handed (getMany entry n (now (s .entry))) ⌝ }
-{
-    let mut i: usize = 0;
-    let mut lo: u32 = 0;
-    while i < n {
-        let token = area::get_u16(s, 199 * i);
-        if (token as u32) < lo {
-            return false;
-        }
-        if handed <= token {
-            return false;
-        }
-        lo = token as u32 + 1;
-        i += 1;
-    }
-    true
-}
-
-// Whether the first entry is unresolved; without an entry no token is handed out.
-fn first_open(s: &[u8], n: usize, handed: u16) -> bool
-    requires { ⌜ (n ≤ ENTRIES-MOST) × (n * 199 ≤ length (now s)) ⌝ }
-    ensures { λ r. ⌜ r ≡ firstOpen handed (getMany entry n (now (s .entry))) ⌝ }
-{
-    if n == 0 {
-        return handed == 0;
-    }
-    s[2] == 0
-}
-
-fn order_ok(s: &[u8], n: usize, handed: u16) -> bool
-    requires { ⌜ (n ≤ ENTRIES-MOST) × (n * 199 ≤ length (now s)) ⌝ }
-    ensures { λ r. ⌜ r ≡ (rising 0 handed (getMany entry n (now (s .entry))) && (firstOpen handed (getMany entry n (now (s .entry))) && leb (openCount (getMany entry n (now (s .entry)))) OPEN-MOST)) ⌝ }
-{
-    if !rising_ok(s, n, handed) {
-        return false;
-    }
-    if !first_open(s, n, handed) {
-        return false;
-    }
-    entryread::open_count(s, n) < 9
 }
 
 // ---- the area
@@ -128,5 +82,5 @@ pub fn session_ok(area: &[u8]) -> bool
     if !entries_ok(&area[109..], n) {
         return false;
     }
-    order_ok(&area[109..], n, handed)
+    ordercheck::order_ok(&area[109..], n, handed)
 }

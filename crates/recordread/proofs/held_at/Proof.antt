@@ -3,7 +3,7 @@
 use native.Mathlib.Omega.{arith}
 use lib.ListN.{length-drop}
 use Rattle.area.proofs.Splice.{part-rest}
-use Rattle.recordread.proofs.Formats.{held-parts, held-got}
+use Rattle.fieldread.proofs.Formats.{held-parts, held-got}
 use Rattle.session.specs.Types.{asHeld}
 use Rattle.recordread.proofs.held_at.Statement.{statement}
 use Rattle.recordread.proofs.held_at.Tie as tie

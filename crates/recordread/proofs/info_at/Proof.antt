@@ -2,7 +2,7 @@
 -- Assumes nothing.
 use lib.ListN.{length-drop}
 use Rattle.area.proofs.Splice.{part-rest}
-use Rattle.recordread.proofs.Formats.{info-parts, info-got}
+use Rattle.fieldread.proofs.Formats.{info-parts, info-got}
 use Rattle.session.specs.Types.{asInfo}
 use native.Mathlib.Omega.{arith}
 use Rattle.recordread.proofs.info_at.Statement.{statement}

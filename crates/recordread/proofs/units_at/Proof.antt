@@ -5,7 +5,7 @@ use mathlib.Core.Path.{refl, sym, _∙_}
 use native.Mathlib.Omega.{arith}
 use Rattle.session.specs.Codec.{number, getMany}
 use Rattle.session.proofs.Codec.{many-count}
-use Rattle.recordread.proofs.Copy.{Taken, taken-start, taken-next, units-each, units-end}
+use Rattle.fieldread.proofs.Copy.{Taken, taken-start, taken-next, units-each, units-end}
 use Rattle.recordread.proofs.units_at.Statement.{statement}
 use Rattle.recordread.proofs.units_at.Tie as tie
 

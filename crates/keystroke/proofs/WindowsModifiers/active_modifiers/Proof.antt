@@ -17,7 +17,11 @@ caps-lock-on-requires c κs = search needs
 
 returns : tie.Need-returns
 unfolding activeModifiers
-returns c = cc
+returns c =
+    let alt = c .before in
+    let control = alt .before in
+    let shift = control .before in
+    rw (shift .any-down .ensures, control .any-down2 .ensures, alt .any-down3 .ensures, c .caps-lock-on .ensures)
 
 pub active-modifiers-spec : {M : Type 1} → statement M
 active-modifiers-spec =

@@ -1,0 +1,3 @@
+pub mod Formats
+pub mod Copy
+pub mod Read

@@ -1,3 +1,0 @@
-pub mod Formats
-mod Copy
-mod Read
