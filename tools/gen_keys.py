@@ -40,7 +40,7 @@ KEY = cases(KEYBOARD, "Key<'a>")
 CODE = cases(KEYBOARD, 'KeyCode')
 PLAIN = CODE[1:]
 ARMS = arms(read('platform_impl/windows/keycode.rs'))
-PLACES = ['Alt', 'AltGraph', 'Control', 'NumLock', 'Enter', 'Tab', 'Space', 'Backspace', 'Escape', 'Pause']
+PLACES = ['Control', 'NumLock', 'Enter', 'Tab', 'Space', 'Backspace', 'Escape', 'Pause']
 assert KEY[0].startswith('Character(') and KEY[1].startswith('Unidentified(') and KEY[2].startswith('Dead(')
 assert CODE[0].startswith('Unidentified(') and not any('(' in c for c in PLAIN + KEY[3:])
 
@@ -61,7 +61,8 @@ def places():
 
 def place_code():
     def one(name, value):
-        return f'pub const {name}: u16 = {value};\n\n'
+        public = 'pub ' if name in ('CONTROL', 'NUM_LOCK', 'PAUSE') else ''
+        return f'{public}const {name}: u16 = {value};\n\n'
     return (one('FIRST_NAMED', 3) + one('KEY_CASES', len(KEY))
             + ''.join(one(re.sub('(?<=[a-z])(?=[A-Z])', '_', p).upper(), KEY.index(p)) for p in PLACES))
 
@@ -73,11 +74,11 @@ def number_specs():
 -- Assumes nothing.
 use Prim.Native.Nat.{{ℕ}}
 use mathlib.Core.List.{{List, [], _∷_}}
-use Rattle.area.specs.Look.{{lookup}}
+use Rattle.area.specs.Look.{{assoc}}
 use Rattle.keys.specs.declared.NativeKeyCode.{{NativeKeyCode}}
 use Rattle.keys.specs.declared.NativeKeyCode.the-variants as nat
-use Rattle.keycode.specs.declared.KeyCode.{{KeyCode}}
-use Rattle.keycode.specs.declared.KeyCode.the-variants as kc
+use Rattle.keys.specs.declared.key_code.KeyCode.{{KeyCode}}
+use Rattle.keys.specs.declared.key_code.KeyCode.the-variants as kc
 
 -- how many cases there are
 abbrev pub codeCases : ℕ
@@ -96,22 +97,17 @@ codes =
 
 -- the key code at a place; at 0 and past the last, the unidentified one with that native code
 unfoldable pub codeAt : ℕ → NativeKeyCode → KeyCode
-codeAt n c = lookup codes (kc.Unidentified c) n
+codeAt n c = assoc codes (kc.Unidentified c) n
 '''
 
 
 def enum():
-    return f'// How many cases tao\'s KeyCode has.\npub const CODE_CASES: u64 = {len(CODE)};\n\n// The place of a physical key, in tao\'s order.\n' + 'pub enum KeyCode {\n    Unidentified(NativeKeyCode),\n' + lines(lambda i, c: f'    {c},', PLAIN) + '}\n'
+    return f'// How many cases tao\'s KeyCode has.\nconst CODE_CASES: u64 = {len(CODE)};\n\n// The place of a physical key, in tao\'s order.\n' + 'pub enum KeyCode {\n    Unidentified(NativeKeyCode),\n' + lines(lambda i, c: f'    {c},', PLAIN) + '}\n'
 
 
 def number_code():
     arms = lines(lambda i, c: f'        KeyCode::{c} => return {i + 1},', PLAIN)
-    return f'''// The numbers of key codes (tao's keyboard.rs).
-use keycode::KeyCode;
-ghost use mathlib.Core.Path.{{_≡_}};
-ghost use Rattle.keycode.specs.Number.{{codeNumber}};
-
-// The place of a key code in tao's KeyCode. Each arm returns by itself: code behind the match would be proved once for every arm.
+    return f'''// The place of a key code in tao's KeyCode. Each arm returns by itself: code behind the match would be proved once for every arm.
 pub fn code_number(c: KeyCode) -> u16
     ensures {{ λ r. ⌜ r ≡ codeNumber c ⌝ }}
 {{
@@ -122,37 +118,14 @@ pub fn code_number(c: KeyCode) -> u16
 '''
 
 
-def at_code():
-    arms = lines(lambda i, c: f'        {i + 1} => return KeyCode::{c},', PLAIN)
-    return f'''// The key codes of numbers (tao's keyboard.rs).
-use keycode::KeyCode;
-use keys::NativeKeyCode;
-ghost use mathlib.Core.Path.{{_≡_}};
-ghost use Rattle.keycode.specs.Number.{{codeAt}};
-
-// The key code at a place; at 0 and past the last, the unidentified one with that native code. Each arm returns by itself, as in code_number.
-pub fn code_at(n: u16, native: NativeKeyCode) -> KeyCode
-    ensures {{ λ r. ⌜ r ≡ codeAt n native ⌝ }}
-{{
-    match n {{
-{arms}        _ => return KeyCode::Unidentified(native),
-    }}
-}}
-'''
-
-
-def numbered(name, i):
-    return name + ('' if i == 1 else str(i))
-
-
 def code_number_proof():
     answers = ''.join(f'    (λ c. c .match .keys{i})\n    (λ c. tagged (c .before .before .args .c) (c .before .match .keys{i}))\n'
                       for i in range(1, len(CODE) + 1))
-    return f'''-- `codenumber::code_number` meets its contract: a key code's place is its tag, and in each arm the tag is the arm's number.
+    return f'''-- `keys::key_code::code_number` meets its contract: a key code's place is its tag, and in each arm the tag is the arm's number.
 -- Assumes nothing.
-use Rattle.keycode.proofs.Tags.{{tagged}}
-use Rattle.codenumber.proofs.code_number.Statement.{{statement}}
-use Rattle.codenumber.proofs.code_number.Tie as tie
+use Rattle.keys.proofs.key_code.Tags.{{tagged}}
+use Rattle.keys.proofs.key_code.code_number.Statement.{{statement}}
+use Rattle.keys.proofs.key_code.code_number.Tie as tie
 
 pub code-number-spec : {{M : Type 1}} → statement M
 code-number-spec =
@@ -162,55 +135,19 @@ code-number-spec =
 '''
 
 
-def code_at_proof():
-    keys = ''.join(f'    ({i} ∷ []) ∷\n' for i in range(len(PLAIN), 0, -1))
-    answers = lines(lambda i, c: f'    (λ c. at-number kc.{c} (c .before .args .native) (c .match .keys{i + 1}) refl refl)', PLAIN)
-    return f'''-- `codeat::code_at` meets its contract: each arm's key code has the arm's number, and no listed key code has the number in the arm `_`.
--- Assumes nothing.
-use mathlib.Core.Path.{{_≡_, refl}}
-use mathlib.Core.List.{{List, [], _∷_}}
-use Prim.Native.Nat.{{ℕ}}
-use Rattle.area.specs.Look.{{lookup}}
-use Rattle.area.proofs.Switch.{{Rest, missed}}
-use Rattle.keys.specs.declared.NativeKeyCode.{{NativeKeyCode}}
-use Rattle.keycode.specs.declared.KeyCode.the-variants as kc
-use Rattle.keycode.specs.Number.{{codeNumber, codeAt, codes}}
-use Rattle.keycode.proofs.Codes.{{at-number}}
-use Rattle.codeat.proofs.code_at.Statement.{{statement}}
-use Rattle.codeat.proofs.code_at.Tie as tie
-
--- the arms' keys, the last arm first
-abbrev arms : List (List ℕ)
-arms =
-{keys}    []
-
--- codeAt stays shut below, so that a wrong arm is refused without computing it
-unlisted : (n : ℕ) (held : NativeKeyCode) → Rest arms n → kc.Unidentified held ≡ codeAt n held
-unfolding codeAt codes lookup
-unlisted n held rest = missed arms n (kc.Unidentified held) codes rest tt
-
-pub code-at-spec : {{M : Type 1}} → statement M
-unfolding codeNumber
-code-at-spec =
-    tie.close
-    (tie.spec
-{answers}    (λ c. unlisted (c .before .args .n) (c .before .args .native) (c .match .rest)))
-'''
-
-
 def each_code_proof():
     return f'''-- What is checked of each key code by computing: its number leads back to it and is below the number of cases.
 -- Assumes nothing.
 use mathlib.Core.Path.{{_≡_, refl}}
 use mathlib.Core.Bool.{{true}}
 use lib.Dec.{{ltb}}
-use Rattle.area.specs.Look.{{lookup}}
-use Rattle.keycode.specs.declared.KeyCode.{{KeyCode}}
-use Rattle.keycode.specs.declared.KeyCode.the-variants as kc
-use Rattle.keycode.specs.Number.{{codeCases, codeNumber, codeNative, codes, codeAt}}
+use Rattle.area.specs.Look.{{assoc}}
+use Rattle.keys.specs.declared.key_code.KeyCode.{{KeyCode}}
+use Rattle.keys.specs.declared.key_code.KeyCode.the-variants as kc
+use Rattle.keys.specs.Number.{{codeCases, codeNumber, codeNative, codes, codeAt}}
 
 pub each-code : (c : KeyCode) → (codeAt (codeNumber c) (codeNative c) ≡ c) × (ltb (codeNumber c) codeCases ≡ true)
-unfolding codeNumber codeNative codeAt codes lookup
+unfolding codeNumber codeNative codeAt codes assoc
 each-code (kc.Unidentified held) = (refl, refl)
 {lines(lambda i, c: f'each-code kc.{c} = (refl, refl)', PLAIN)}'''
 
@@ -233,10 +170,10 @@ def scan_specs():
 -- Assumes nothing.
 use Prim.Native.Nat.{{ℕ}}
 use mathlib.Core.List.{{List, [], _∷_}}
-use Rattle.area.specs.Look.{{lookup}}
+use Rattle.area.specs.Look.{{assoc}}
 use Rattle.keys.specs.declared.NativeKeyCode.the-variants as nat
-use Rattle.keycode.specs.declared.KeyCode.{{KeyCode}}
-use Rattle.keycode.specs.declared.KeyCode.the-variants as kc
+use Rattle.keys.specs.declared.key_code.KeyCode.{{KeyCode}}
+use Rattle.keys.specs.declared.key_code.KeyCode.the-variants as kc
 
 -- the codes that it lists; where two share a key, the lower one first
 unfoldable pub scanCodes : List (ℕ × KeyCode)
@@ -245,7 +182,7 @@ scanCodes =
 
 -- an unlisted code is unidentified, with the code inside
 unfoldable pub keyCodeOf : ℕ → KeyCode
-keyCodeOf n = lookup scanCodes (kc.Unidentified (nat.Windows n)) n
+keyCodeOf n = assoc scanCodes (kc.Unidentified (nat.Windows n)) n
 '''
 
 
@@ -257,20 +194,20 @@ def scan_proof():
         if len(row[0]) == 1:
             return f'    (λ c. listed kc.{key} ({way}) refl)'
         return f'    (λ c. ⊎-elim (λ h. listed kc.{key} h refl) (λ h. listed kc.{key} h refl) ({way}))'
-    return f'''-- `scancode::keycode_from_scancode` meets its contract: each arm's code is looked up by computing, and the arm `_` by `missed`.
+    return f'''-- `lookup::keycode::keycode_from_scancode` meets its contract: each arm's code is looked up by computing, and the arm `_` by `missed`.
 -- Assumes nothing.
 use mathlib.Core.Path.{{_≡_, refl, sym, ap, _∙_}}
 use mathlib.Core.List.{{List, [], _∷_}}
 use mathlib.Core.Logic.{{⊎-elim}}
 use Prim.Native.Nat.{{ℕ}}
-use Rattle.area.specs.Look.{{lookup}}
+use Rattle.area.specs.Look.{{assoc}}
 use Rattle.area.proofs.Switch.{{Rest, missed}}
 use Rattle.keys.specs.declared.NativeKeyCode.the-variants as nat
-use Rattle.keycode.specs.declared.KeyCode.{{KeyCode}}
-use Rattle.keycode.specs.declared.KeyCode.the-variants as kc
-use Rattle.scancode.specs.Codes.{{scanCodes, keyCodeOf}}
-use Rattle.scancode.proofs.keycode_from_scancode.Statement.{{statement}}
-use Rattle.scancode.proofs.keycode_from_scancode.Tie as tie
+use Rattle.keys.specs.declared.key_code.KeyCode.{{KeyCode}}
+use Rattle.keys.specs.declared.key_code.KeyCode.the-variants as kc
+use Rattle.lookup.specs.Codes.{{scanCodes, keyCodeOf}}
+use Rattle.lookup.proofs.keycode.keycode_from_scancode.Statement.{{statement}}
+use Rattle.lookup.proofs.keycode.keycode_from_scancode.Tie as tie
 
 -- the arms' codes, the last arm first
 abbrev arms : List (List ℕ)
@@ -278,7 +215,7 @@ arms =
 {keys}    []
 
 -- the two laws leave keyCodeOf shut in the proof, so that a wrong arm is refused without computing it
-listed : (r : KeyCode) {{x k : ℕ}} → x ≡ k → lookup scanCodes (kc.Unidentified (nat.Windows k)) k ≡ r → r ≡ keyCodeOf x
+listed : (r : KeyCode) {{x k : ℕ}} → x ≡ k → assoc scanCodes (kc.Unidentified (nat.Windows k)) k ≡ r → r ≡ keyCodeOf x
 unfolding keyCodeOf
 listed r h e = sym e ∙ sym (ap keyCodeOf h)
 
@@ -287,7 +224,7 @@ unfolding keyCodeOf scanCodes
 unlisted n rest = missed arms n (kc.Unidentified (nat.Windows n)) scanCodes rest tt
 
 pub keycode-from-scancode-spec : {{M : Type 1}} → statement M
-unfolding scanCodes lookup
+unfolding scanCodes assoc
 keycode-from-scancode-spec =
     tie.close
     (tie.spec
@@ -316,16 +253,13 @@ def replace(path, **parts):
 def main():
     write('crates/keys/specs/Places.antt', places())
     replace('crates/keys/src/lib.rt', places=place_code())
-    write('crates/keycode/specs/Number.antt', number_specs())
-    write('crates/codenumber/src/lib.rt', number_code())
-    write('crates/codenumber/proofs/code_number/Proof.antt', code_number_proof())
-    write('crates/codeat/src/lib.rt', at_code())
-    write('crates/codeat/proofs/code_at/Proof.antt', code_at_proof())
-    write('crates/keycode/proofs/EachCode.antt', each_code_proof())
-    write('crates/scancode/specs/Codes.antt', scan_specs())
-    write('crates/scancode/proofs/keycode_from_scancode/Proof.antt', scan_proof())
-    replace('crates/scancode/src/lib.rt', keycode_from_scancode=scan_code())
-    replace('crates/keycode/src/lib.rt', KeyCode=enum())
+    write('crates/keys/specs/Number.antt', number_specs())
+    replace('crates/keys/src/key_code.rt', KeyCode=enum(), code_number=number_code())
+    write('crates/keys/proofs/key_code/code_number/Proof.antt', code_number_proof())
+    write('crates/keys/proofs/key_code/EachCode.antt', each_code_proof())
+    write('crates/lookup/specs/Codes.antt', scan_specs())
+    write('crates/lookup/proofs/keycode/keycode_from_scancode/Proof.antt', scan_proof())
+    replace('crates/lookup/src/keycode.rt', keycode_from_scancode=scan_code())
 
 
 if __name__ == '__main__':

@@ -208,7 +208,7 @@ fn main() {
   let cards = arguments.next().unwrap_or(200);
   let runs = arguments.next().unwrap_or(9);
   let empty = LayoutSpec::empty(1);
-  let us = std::fs::read(concat!(env!("CARGO_MANIFEST_DIR"), "/../crates/keyboard/data/us.block")).expect("us.block");
+  let us = std::fs::read(concat!(env!("CARGO_MANIFEST_DIR"), "/../crates/layout_keys/data/us.block")).expect("us.block");
   let layouts = [
     Layout { name: "empty", block: areas::block::encode(&empty).unwrap(), maps: Arc::new(empty) },
     Layout { name: "US", maps: Arc::new(areas::block::decode(2, &us).unwrap()), block: us },

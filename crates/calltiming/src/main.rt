@@ -7,7 +7,12 @@
 //
 // It prints how many calls passed and events were handed out, added up, and how many entries the queue is left with; of f and g how
 // many rounds read what they had written.
-use peeked::Peeked;
+use lookup::block::HEAD;
+use message::peeked::Peeked;
+use session::AREA_SIZE;
+use session::COUNT_AT;
+use session::ENTRIES_AT;
+use session::ENTRY_SIZE;
 use session::PendingMessageToken;
 use session::ProcResult;
 use show::Said;
@@ -122,8 +127,8 @@ fn whole(
 
 // The six calls of a digit: 6, and 2 events where the queue was empty.
 fn digit(
-    session: &mut [u8; 65536],
-    answers: &mut [u8; 65536],
+    session: &mut [u8; AREA_SIZE],
+    answers: &mut [u8; AREA_SIZE],
     state: &[u8; 256],
     block: &[u8],
 ) -> u64 {
@@ -135,8 +140,8 @@ fn digit(
 }
 
 fn digits(
-    session: &mut [u8; 65536],
-    answers: &mut [u8; 65536],
+    session: &mut [u8; AREA_SIZE],
+    answers: &mut [u8; AREA_SIZE],
     state: &[u8; 256],
     block: &[u8],
     rounds: u64,
@@ -155,8 +160,8 @@ fn digits(
 
 // 254 entries: a press that stays open, 126 digits of two events each and a release.
 fn fill_queue(
-    session: &mut [u8; 65536],
-    answers: &mut [u8; 65536],
+    session: &mut [u8; AREA_SIZE],
+    answers: &mut [u8; AREA_SIZE],
     state: &[u8; 256],
     block: &[u8],
 ) {
@@ -166,21 +171,21 @@ fn fill_queue(
 }
 
 // The queue of 254 entries as it was: what stands before the entries, and no entry behind the 254.
-fn put_back(session: &mut [u8; 65536], before: &[u8; 109]) {
-    span::copy_part(before, 0, session, 0, 109);
-    span::put_zeros(session, 109 + 199 * 254, 199 * 2);
+fn put_back(session: &mut [u8; AREA_SIZE], before: &[u8; ENTRIES_AT]) {
+    area::span::copy_part(before, 0, session, 0, ENTRIES_AT);
+    area::span::put_zeros(session, ENTRIES_AT + ENTRY_SIZE * 254, ENTRY_SIZE * 2);
 }
 
 fn digits_behind(
-    session: &mut [u8; 65536],
-    answers: &mut [u8; 65536],
+    session: &mut [u8; AREA_SIZE],
+    answers: &mut [u8; AREA_SIZE],
     state: &[u8; 256],
     block: &[u8],
     rounds: u64,
 ) -> u64 {
-    let mut before = [0u8; 109];
+    let mut before = [0u8; ENTRIES_AT];
     fill_queue(session, answers, state, block);
-    span::copy_part(session, 0, &mut before, 0, 109);
+    area::span::copy_part(session, 0, &mut before, 0, ENTRIES_AT);
     let mut count: u64 = 0;
     let mut i: u64 = 0;
     while i < rounds {
@@ -196,8 +201,8 @@ fn digits_behind(
 
 // The plain work of one call. A byte of each area changes from round to round, so that no round can be left out; 1 where it is read.
 fn floor_one(
-    session: &mut [u8; 65536],
-    answers: &mut [u8; 65536],
+    session: &mut [u8; AREA_SIZE],
+    answers: &mut [u8; AREA_SIZE],
     block: &mut [u8],
     i: u64,
 ) -> u64 {
@@ -209,8 +214,8 @@ fn floor_one(
     session[at] = bit;
     block[0] = bit;
     answers[at] = 1;
-    let read = scan::or_all(session) | scan::or_all(block);
-    span::fill_zero(answers, 0);
+    let read = area::scan::or_all(session) | area::scan::or_all(block);
+    area::span::fill_zero(answers, 0);
     if bit <= read && answers[at] == 0 {
         return 1;
     }
@@ -218,8 +223,8 @@ fn floor_one(
 }
 
 fn floors(
-    session: &mut [u8; 65536],
-    answers: &mut [u8; 65536],
+    session: &mut [u8; AREA_SIZE],
+    answers: &mut [u8; AREA_SIZE],
     block: &mut [u8],
     rounds: u64,
 ) -> u64 {
@@ -237,8 +242,8 @@ fn floors(
 
 fn counted_of(
     what: u8,
-    session: &mut [u8; 65536],
-    answers: &mut [u8; 65536],
+    session: &mut [u8; AREA_SIZE],
+    answers: &mut [u8; AREA_SIZE],
     state: &[u8; 256],
     block: &mut [u8],
     rounds: u64,
@@ -252,10 +257,10 @@ fn counted_of(
     digits(session, answers, state, block, rounds)
 }
 
-fn show_count(count: u64, session: &[u8; 65536]) {
+fn show_count(count: u64, session: &[u8; AREA_SIZE]) {
     decimal(count);
     text(b" counted, ");
-    decimal(u16_at(session, 107) as u64);
+    decimal(u16_at(session, COUNT_AT) as u64);
     text(b" entries\n");
 }
 
@@ -263,7 +268,7 @@ fn run(what: u8, block: &mut [u8], rounds: u64) {
     let mut session = io::large_buffer();
     let mut answers = io::large_buffer();
     let state = [0u8; 256];
-    headerwrite::fresh(&mut session);
+    record::write::fresh(&mut session);
     let count = counted_of(what, &mut session, &mut answers, &state, block, rounds);
     show_count(count, &session);
 }
@@ -281,7 +286,7 @@ fn run_on_us(what: u8, rounds: u64) {
 }
 
 fn run_on_smallest(what: u8, rounds: u64) {
-    let mut block = [0u8; 2634];
+    let mut block = [0u8; HEAD];
     run(what, &mut block, rounds);
 }
 

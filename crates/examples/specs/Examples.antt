@@ -1,8 +1,9 @@
--- Worked examples: calls, one after the other, and what each must answer. They run on keyboards and sessions as records, not as bytes.
+-- Worked examples: calls, one after the other, and what each must answer. Sessions and keyboards are written as records; a call brings the
+-- block that stands for its keyboard.
 -- Assumes nothing.
 use mathlib.Core.Path.{_≡_}
 use Prim.Native.Nat.{ℕ, zero, suc, _+_, _-_}
-use mathlib.Core.Bool.{Bool, true, _&&_}
+use mathlib.Core.Bool.{Bool, true}
 use mathlib.Core.List.{List, [], _∷_, _++_}
 use mathlib.Core.Option.{Option, some, none}
 use lib.Dec.{eqb}
@@ -10,16 +11,16 @@ use lib.ListN.{length, replicate}
 use lib.IntN.{pos}
 use Rattle.keys.specs.Text.{FullKey}
 use Rattle.keys.specs.declared.KeyLocation.{KeyLocation}
-use Rattle.keycode.specs.declared.KeyCode.{KeyCode}
-use Rattle.block.specs.Block.{blockOk}
-use Rattle.block.specs.Encode.{blockOf}
+use Rattle.keys.specs.declared.key_code.KeyCode.{KeyCode}
+use Rattle.lookup.specs.Block.{blockOk}
+use Rattle.lookup.specs.Encode.{blockOf}
 use Rattle.session.specs.Limits.{KEYS}
-use Rattle.session.specs.Given.{Message, Inputs}
+use Rattle.session.specs.Given.{Message, Inputs, Given, brought, finished}
 use Rattle.session.specs.Event.{Event}
 use Rattle.session.specs.Session.{Session, isSession}
 use Rattle.session.specs.Builder.{Keyboard, keyboardOf}
-use Rattle.session.specs.Calls.{Effect, sortOf, messageEffect, findWait, finishEffect}
-use Rattle.session.specs.Questions.{firstNo, messageQuestions, finishQuestions}
+use Rattle.session.specs.Calls.{Effect, sortOf, effectOf}
+use Rattle.session.specs.Questions.{firstNo, sessionQuestions}
 use Rattle.session.specs.Answers.{resultBy}
 use Rattle.session.specs.declared.ElementState.{ElementState}
 use Rattle.session.specs.declared.ProcResult.{ProcResult}
@@ -40,15 +41,35 @@ pub record Example : Type 0 where
   -- each call with the answer that it must give
   pub calls : List (Step × Answer)
 
--- ---- the run: the questions, the effects and `result` are those of the calls' own definitions (Questions.antt, Calls.antt, Answers.antt)
+-- ---- the calls: each keyboard as the block and the key state that stand for it
+
+abbrev pub inputsFor : Keyboard → Inputs
+inputsFor b = record { keyState = b .keyState; block = blockOf (b .layout) }
+
+abbrev pub given : Step → Given
+given (bring b m) = brought (inputsFor b) m
+given (finish b t p) = finished (inputsFor b) t p
+
+abbrev pub keyboardIn : Step → Keyboard
+keyboardIn (bring b m) = b
+keyboardIn (finish b t p) = b
+
+-- the inputs pass questions 2 and 3, and stand for the keyboard
+abbrev pub Brought : Keyboard → Type 0
+Brought b =
+    (eqb (length (b .keyState)) KEYS ≡ true) × (blockOk (inputsFor b .block) ≡ true) × (keyboardOf (inputsFor b) ≡ b)
+
+abbrev pub AllBrought : List (Step × Answer) → Type 0
+AllBrought [] = Unit {0}
+AllBrought (c ∷ cs) = Brought (keyboardIn (c .0)) × AllBrought cs
+
+-- ---- the run: the questions 5 to 10, the effects and `result` are those of the calls' own definitions (Questions.antt, Calls.antt, Answers.antt)
 
 abbrev pub refusal : Session → Step → Option ℕ
-refusal s (bring b m) = firstNo (messageQuestions s b m (sortOf m))
-refusal s (finish b t p) = firstNo (finishQuestions s t)
+refusal s x = firstNo (sessionQuestions s (given x))
 
 abbrev pub effect : Session → Step → Effect
-effect s (bring b m) = messageEffect s b m (sortOf m)
-effect s (finish b t p) = finishEffect s b t p (findWait t (s .entries))
+effect s x = effectOf s (given x)
 
 -- what `result` is before each call, and what it is after one that is not refused
 abbrev pub lent : ProcResult
@@ -66,39 +87,26 @@ abbrev pub afterBy : Option ℕ → Session → Effect → Session
 afterBy none s f = f .after
 afterBy (some n) s f = s
 
-abbrev pub answersFrom : Session → List (Step × Answer) → List Answer
-answersFrom s [] = []
-answersFrom s (c ∷ cs) =
-    answerBy (refusal s (c .0)) (result s (c .0)) (effect s (c .0)) ∷ answersFrom (afterBy (refusal s (c .0)) s (effect s (c .0))) cs
+-- calls one after the other, by what refuses them and what they do
+abbrev pub answersBy : (Session → Step → Option ℕ) → (Session → Step → Effect) → Session → List (Step × Answer) → List Answer
+answersBy r f s [] = []
+answersBy r f s (c ∷ cs) =
+    answerBy (r s (c .0)) (result s (c .0)) (f s (c .0)) ∷ answersBy r f (afterBy (r s (c .0)) s (f s (c .0))) cs
 
 abbrev pub expectedIn : List (Step × Answer) → List Answer
 expectedIn [] = []
 expectedIn (c ∷ cs) = c .1 ∷ expectedIn cs
 
--- what the definitions answer to the calls of each example
-abbrev pub answers : List Example → List (List Answer)
-answers [] = []
-answers (x ∷ xs) = answersFrom (x .start) (x .calls) ∷ answers xs
+-- An example holds: its start is a session (one that is not fresh is as tao's own queue was), its calls can be made, and the definitions give
+-- to each the answer that it must give.
+pub record Holds (x : Example) : Type 0 where
+  pub start-ok : isSession (x .start) ≡ true
+  pub can-come : AllBrought (x .calls)
+  pub answers : answersBy refusal effect (x .start) (x .calls) ≡ expectedIn (x .calls)
 
--- what each example expects
-abbrev pub expected : List Example → List (List Answer)
-expected [] = []
-expected (x ∷ xs) = expectedIn (x .calls) ∷ expected xs
-
--- every example begins with a session; the ones that are not fresh are as tao's own queue was
-abbrev pub startsOk : List Example → Bool
-startsOk [] = true
-startsOk (x ∷ xs) = isSession (x .start) && startsOk xs
-
--- ---- the keyboards
-
--- a keyboard that a call can bring: there are inputs that pass questions 2 and 3 and stand for it
-abbrev pub inputsFor : Keyboard → Inputs
-inputsFor b = record { keyState = b .keyState; block = blockOf (b .layout) }
-
-abbrev pub Brought : Keyboard → Type 0
-Brought b =
-    (eqb (length (b .keyState)) KEYS ≡ true) × (blockOk (inputsFor b .block) ≡ true) × (keyboardOf (inputsFor b) ≡ b)
+abbrev pub AllHold : List Example → Type 0
+AllHold [] = Unit {0}
+AllHold (x ∷ xs) = Holds x × AllHold xs
 
 -- ---- words that the examples are written with
 

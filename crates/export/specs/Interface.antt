@@ -10,13 +10,13 @@ use Rattle.area.specs.Bytes.{num}
 use Rattle.session.specs.Given.{Message}
 use Rattle.session.specs.Answers.{Left}
 use Rattle.session.specs.declared.ProcResult.{ProcResult}
-use Rattle.answernumber.specs.Numbers.{NONE, refusalOf, tokenOf, changed}
-use Rattle.eventfields.specs.Events.{isAnswer}
+use Rattle.export.specs.Numbers.{NONE, refusalOf, tokenNumber, changed}
+use Rattle.export.specs.Events.{isAnswer}
 
 -- an open in numbers: its refusal, its token, what becomes of the message result, and both areas are those of all that it leaves
 abbrev pub OpenSays : ℕ → ℕ → ℕ → List ℕ → List ℕ → Left → ProcResult → Type 0
 OpenSays refused opened result session answers l was =
-    (refused ≡ refusalOf (l .said)) × (opened ≡ tokenOf (l .said)) × (changed result was ≡ l .result) × (result ≤ 2) × (session ≡ l .session) × (answers ≡ l .answers)
+    (refused ≡ refusalOf (l .said)) × (opened ≡ tokenNumber (l .said)) × (changed result was ≡ l .result) × (result ≤ 2) × (session ≡ l .session) × (answers ≡ l .answers)
 
 -- a finish likewise
 abbrev pub FinishSays : ℕ → List ℕ → List ℕ → Left → Type 0

@@ -1,1 +1,3 @@
 pub mod Interface
+pub mod Numbers
+pub mod Events

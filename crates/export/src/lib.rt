@@ -1,23 +1,24 @@
 // The C interface: the calls on numbers and slices. include/mahjonglarch.h says the same to a host.
-ghost use mathlib.Core.Path.{_≡_};
+mod events;
+pub mod numbers;
+
 ghost use mathlib.Core.List.{List};
+ghost use mathlib.Core.Path.{_≡_};
 ghost use Prim.Native.Nat.{ℕ};
 ghost use lib.Dec.{eqb};
 ghost use lib.ListN.{length};
 ghost use Rattle.area.specs.Pick.{pick};
+ghost use Rattle.session.specs.Answers.{openOf, finishOf};
+ghost use Rattle.session.specs.Area.{encode};
 ghost use Rattle.session.specs.Limits.{AREA};
 ghost use Rattle.session.specs.Session.{freshSession};
-ghost use Rattle.session.specs.Area.{encode};
-ghost use Rattle.session.specs.Answers.{openOf, finishOf};
 ghost use Rattle.session.specs.declared.ProcResult.{ProcResult};
-ghost use Rattle.peeked.specs.Peeked.{asPeeked};
 ghost use Rattle.message.specs.Calls.{inputs, message};
-ghost use Rattle.eventfields.specs.Events.{eventAt, fieldsLeft, textAt, textLeft};
+ghost use Rattle.message.specs.Peeked.{asPeeked};
+ghost use Rattle.export.specs.Events.{eventAt, fieldsLeft, textAt, textLeft};
 ghost use Rattle.export.specs.Interface.{OpenSays, FinishSays, peekedAs, countOf};
-use answernumber::NONE;
-use peeked::Peeked;
-use session::FinishAnswer;
-use session::OpenAnswer;
+use crate::numbers::NONE;
+use message::peeked::Peeked;
 use session::PendingMessageToken;
 use session::ProcResult;
 
@@ -25,11 +26,13 @@ use session::ProcResult;
 
 // Makes the area that of a fresh session: 0. An area of another size is left as it is: 1, question 1's number.
 #[no_mangle]
-pub extern "C" fn mahjonglarch_fresh(area: &mut [u8]) -> u32
-    ensures { λ r. ⌜ (r ≡ pick (eqb (length (now (area .entry))) AREA) 0 1) × (now (area .exit) ≡ pick (eqb (length (now (area .entry))) AREA) (encode freshSession) (now (area .entry))) ⌝ }
+pub extern "C" fn mahjonglarch_fresh(session: &mut [u8]) -> u32
+    ensures { λ r. ⌜ (r ≡ pick (eqb (length (now (session .entry))) AREA) 0 1) × (now (session .exit) ≡ pick (eqb (length (now (session .entry))) AREA) (encode freshSession) (now (session .entry))) ⌝ }
 {
-    if headerwrite::fresh(area) { 0 } else { 1 } // question 1
+    if record::write::fresh(session) { 0 } else { 1 } // question 1
 }
+
+// ---- open and finish
 
 // The peeked message, or its absence where `peeked` is 0.
 fn peeked_at(peeked: u32, kind: u32, wparam: u64, lparam: u64) -> Peeked
@@ -40,8 +43,6 @@ fn peeked_at(peeked: u32, kind: u32, wparam: u64, lparam: u64) -> Peeked
     }
     Peeked::Message(kind, wparam, lparam)
 }
-
-// ---- open and finish
 
 // Takes a message: 0, or the number of the question that refused it. `token` becomes the token of the message that was opened, or
 // 4,294,967,295 where none was; `result` what becomes of the message result: 0 it stays as it was, 1 the default procedure's, 2 value 0.
@@ -63,9 +64,9 @@ pub extern "C" fn mahjonglarch_open(
     let a = message::open(session, answers, state, block, kind, wparam, lparam, was);
     let answer = a.answer;
     let after = a.result;
-    *token = answernumber::token_number(answer);
-    *result = answernumber::result_number(after);
-    answernumber::open_number(answer)
+    *token = crate::numbers::token_number(answer);
+    *result = crate::numbers::result_number(after);
+    crate::numbers::open_number(answer)
 }
 
 // Finishes the latest open message, which has the token, with the peeked message, or with none where `peeked` is 0: 0, or the number of the
@@ -93,7 +94,7 @@ pub extern "C" fn mahjonglarch_finish(
         PendingMessageToken(token),
         p,
     );
-    answernumber::finish_number(a)
+    crate::numbers::finish_number(a)
 }
 
 // ---- the events of an answer area
@@ -103,7 +104,7 @@ pub extern "C" fn mahjonglarch_finish(
 pub extern "C" fn mahjonglarch_event_count(answers: &[u8]) -> u32
     ensures { λ r. ⌜ r ≡ countOf (now (answers .entry)) ⌝ }
 {
-    if !answerevents::is_answer(answers) {
+    if !crate::events::is_answer(answers) {
         return NONE;
     }
     area::get_u16(answers, 0) as u32
@@ -115,7 +116,7 @@ pub extern "C" fn mahjonglarch_event_count(answers: &[u8]) -> u32
 pub extern "C" fn mahjonglarch_event(answers: &[u8], i: u32, fields: &mut [u32]) -> u32
     ensures { λ r. ⌜ _≡_ {A = ℕ × List ℕ} (r, now (fields .exit)) (fieldsLeft (eventAt (now (answers .entry)) i) (now (fields .entry))) ⌝ }
 {
-    if answerevents::read_event(answers, i, fields) {
+    if crate::events::read_event(answers, i, fields) {
         0
     } else {
         1 // no such event
@@ -134,5 +135,5 @@ pub extern "C" fn mahjonglarch_event_text(
 ) -> u32
     ensures { λ r. ⌜ _≡_ {A = ℕ × List ℕ} (r, now (text .exit)) (textLeft (textAt (eventAt (now (answers .entry)) i) which) (now (text .entry))) ⌝ }
 {
-    answerevents::read_text(answers, i, which, text)
+    crate::events::read_text(answers, i, which, text)
 }

@@ -12,7 +12,7 @@ use mir.Val.{SFits, Fits, ofZ, toZ}
 use mir.Facts.{toZ-ofZ, ofZ-toZ, fits-ofZ, sfits-toZ}
 use borrow.Author.Tests.{lt-ltb, ne-eqb, ltb-true, ltb-false, eqb-true}
 use Rattle.area.specs.Pick.{pick}
-use Rattle.area.specs.Look.{lookup}
+use Rattle.area.specs.Look.{assoc}
 use Rattle.area.proofs.Pick.{no-yes, yes-no}
 use Rattle.text.specs.Unicode.{scalar}
 use Rattle.keys.specs.Places.{firstNamed, keyCases}
@@ -50,7 +50,7 @@ short : (n : ℕ) → ltb n (2 ^ 16) ≡ true → n % 65536 ≡ n
 short n e = mod-eq-of-lt (ltb-true n (2 ^ 16) e)
 
 pub native-back : (c : NativeKeyCode) → nativeFits c ≡ true → (nativeAt (nativeKind c) (nativeValue c) ≡ c) × (nativeOk (nativeKind c) (nativeValue c) ≡ true)
-unfolding nativeFits nativeKind nativeValue nativeAt nativeOk lookup
+unfolding nativeFits nativeKind nativeValue nativeAt nativeOk assoc
 native-back nk.Unidentified e = (refl, refl)
 native-back (nk.Windows n) e = (ap nk.Windows (short n e), e)
 native-back (nk.MacOS n) e = (ap nk.MacOS (short n e), e)
@@ -60,7 +60,7 @@ native-back (nk.Android z) e =
     (ap nk.Android (toZ-ofZ f), rw (lt-ltb (ofZ w32 z) (2 ^ 32) (fits-ofZ f .fits)))
 
 pub native-exact : (k v : ℕ) → nativeOk k v ≡ true → (nativeKind (nativeAt k v) ≡ k) × (nativeValue (nativeAt k v) ≡ v) × (nativeFits (nativeAt k v) ≡ true)
-unfolding nativeFits nativeKind nativeValue nativeAt nativeOk lookup
+unfolding nativeFits nativeKind nativeValue nativeAt nativeOk assoc
 native-exact zero v e = (refl, sym (eqb-true v 0 e), refl)
 native-exact (suc zero) v e = (refl, short v e, rw (short v e) e)
 native-exact (suc (suc zero)) v e = (refl, short v e, rw (short v e) e)
@@ -92,14 +92,14 @@ location-below Right = omega arith
 location-below Numpad = omega arith
 
 pub location-back : (l : KeyLocation) → locationAt (locationNumber l) ≡ l
-unfolding locationNumber locationAt lookup
+unfolding locationNumber locationAt assoc
 location-back Standard = refl
 location-back Left = refl
 location-back Right = refl
 location-back Numpad = refl
 
 pub location-exact : (n : ℕ) → n < locationCases → locationNumber (locationAt n) ≡ n
-unfolding locationNumber locationAt lookup
+unfolding locationNumber locationAt assoc
 location-exact zero h = refl
 location-exact (suc zero) h = refl
 location-exact (suc (suc zero)) h = refl
@@ -122,7 +122,7 @@ scalar-below v e = go (ltb v 0xD800) refl
 
 -- a dead key's numbers are of one of two forms
 dead-cases : {A : Type 0} (aux v : ℕ) → deadOk aux v ≡ true → (aux ≡ 0 → v ≡ 0 → A) → (aux ≡ 1 → scalar v ≡ true → A) → A
-unfolding deadOk lookup
+unfolding deadOk assoc
 dead-cases zero v e f g = f refl (eqb-true v 0 e)
 dead-cases (suc zero) v e f g = g refl e
 dead-cases (suc (suc a)) v e f g =
@@ -140,11 +140,11 @@ named-within n e =
 module _ (n aux v : ℕ) (h : firstNamed ≤ n) where
   -- from the first of them on, a place is a named key's
   at-named : keyAt n aux v ≡ Named n
-  unfolding keyAt lookup
+  unfolding keyAt assoc
   at-named = rw (ne-eqb n 0 (λ e. omega arith), ne-eqb n 1 (λ e. omega arith), ne-eqb n 2 (λ e. omega arith))
 
   ok-named : keyOk n aux v ≡ pick (namedOk n) (noneHeld aux v) false
-  unfolding keyOk lookup
+  unfolding keyOk assoc
   ok-named = rw (ne-eqb n 0 (λ e. omega arith), ne-eqb n 1 (λ e. omega arith), ne-eqb n 2 (λ e. omega arith))
 
   ok-parts : keyOk n aux v ≡ true → (namedOk n ≡ true) × (aux ≡ 0) × (v ≡ 0)
@@ -154,7 +154,7 @@ module _ (n aux v : ℕ) (h : firstNamed ≤ n) where
       (p .0, q .0, q .1)
 
 pub key-below : (n aux v : ℕ) → keyOk n aux v ≡ true → (n < keyCases) × (aux < 256) × (v < 2 ^ 32)
-unfolding keyOk lookup
+unfolding keyOk assoc
 key-below zero aux v e = let p = held-none aux v e in (omega arith, omega arith, omega arith)
 key-below (suc zero) aux v e = let p = native-below aux v e in (omega arith, omega arith, p .1)
 key-below (suc (suc zero)) aux v e =
@@ -165,7 +165,7 @@ key-below (suc (suc (suc n))) aux v e =
     (named-within (suc (suc (suc n))) (p .0) .1, omega arith, omega arith)
 
 pub key-back : (k : Key) → keyFits k ≡ true → (keyAt (keyNumber k) (keyAux k) (keyValue k) ≡ k) × (keyOk (keyNumber k) (keyAux k) (keyValue k) ≡ true)
-unfolding keyFits keyNumber keyAux keyValue keyAt keyOk deadAt deadOk noneHeld lookup
+unfolding keyFits keyNumber keyAux keyValue keyAt keyOk deadAt deadOk noneHeld assoc
 key-back (Named n) e =
     let h = named-within n e .0 in
     (at-named n 0 0 h, ok-named n 0 0 h ∙ ap (λ (b : Bool). pick b true false) e)
@@ -175,7 +175,7 @@ key-back Dead e = (refl, refl)
 key-back (DeadChar c) e = (refl, e)
 
 pub key-exact : (n aux v : ℕ) → keyOk n aux v ≡ true → (keyNumber (keyAt n aux v) ≡ n) × (keyAux (keyAt n aux v) ≡ aux) × (keyValue (keyAt n aux v) ≡ v) × (keyFits (keyAt n aux v) ≡ true)
-unfolding keyFits keyNumber keyAux keyValue keyAt keyOk deadAt lookup
+unfolding keyFits keyNumber keyAux keyValue keyAt keyOk deadAt assoc
 key-exact zero aux v e = let p = held-none aux v e in (refl, sym (p .0), sym (p .1), refl)
 key-exact (suc zero) aux v e = let p = native-exact aux v e in (refl, p .0, p .1, p .2)
 key-exact (suc (suc zero)) aux v e =
@@ -193,7 +193,3 @@ number-character Character e h = refl
 number-character (Unidentified c) e h = let z : ⊥ = omega arith in absurd z
 number-character Dead e h = let z : ⊥ = omega arith in absurd z
 number-character (DeadChar c) e h = let z : ⊥ = omega arith in absurd z
-
-pub character-number : keyNumber Character ≡ 0
-unfolding keyNumber
-character-number = refl

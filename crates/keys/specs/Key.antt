@@ -5,7 +5,7 @@ use mathlib.Core.Bool.{Bool, true, false}
 use mathlib.Core.List.{[], _∷_}
 use lib.Dec.{eqb, ltb}
 use Rattle.area.specs.Pick.{pick}
-use Rattle.area.specs.Look.{lookup}
+use Rattle.area.specs.Look.{assoc}
 use Rattle.text.specs.Unicode.{scalar}
 use Rattle.keys.specs.Places.{firstNamed, keyCases}
 use Rattle.keys.specs.Native.{nativeKind, nativeValue, nativeFits, nativeOk, nativeAt}
@@ -54,17 +54,17 @@ noneHeld aux v = pick (eqb aux 0) (eqb v 0) false
 
 -- a dead key without a character, or with one, which is a scalar value
 unfoldable pub deadOk : ℕ → ℕ → Bool
-deadOk aux v = lookup ((0, eqb v 0) ∷ (1, scalar v) ∷ []) false aux
+deadOk aux v = assoc ((0, eqb v 0) ∷ (1, scalar v) ∷ []) false aux
 
 -- some key of tao's has these three numbers
 unfoldable pub keyOk : ℕ → ℕ → ℕ → Bool
 keyOk n aux v =
-    lookup ((0, noneHeld aux v) ∷ (1, nativeOk aux v) ∷ (2, deadOk aux v) ∷ []) (pick (namedOk n) (noneHeld aux v) false) n
+    assoc ((0, noneHeld aux v) ∷ (1, nativeOk aux v) ∷ (2, deadOk aux v) ∷ []) (pick (namedOk n) (noneHeld aux v) false) n
 
 -- a dead key by its two numbers
 unfoldable pub deadAt : ℕ → ℕ → Key
-deadAt aux v = lookup ((0, Dead) ∷ []) (DeadChar v) aux
+deadAt aux v = assoc ((0, Dead) ∷ []) (DeadChar v) aux
 
 -- the key of three numbers
 unfoldable pub keyAt : ℕ → ℕ → ℕ → Key
-keyAt n aux v = lookup ((0, Character) ∷ (1, Unidentified (nativeAt aux v)) ∷ (2, deadAt aux v) ∷ []) (Named n) n
+keyAt n aux v = assoc ((0, Character) ∷ (1, Unidentified (nativeAt aux v)) ∷ (2, deadAt aux v) ∷ []) (Named n) n

@@ -3,3 +3,5 @@ pub mod Native
 pub mod Location
 pub mod Key
 pub mod Text
+pub mod Number
+pub mod CodeKey

@@ -2,7 +2,7 @@
 -- Assumes nothing.
 use Prim.Native.Nat.{ℕ}
 use mathlib.Core.List.{[], _∷_}
-use Rattle.area.specs.Look.{lookup}
+use Rattle.area.specs.Look.{assoc}
 use Rattle.keys.specs.declared.KeyLocation.{KeyLocation}
 use Rattle.keys.specs.declared.KeyLocation.the-variants.{Standard, Left, Right, Numpad}
 
@@ -19,4 +19,4 @@ locationCases = 4
 
 -- the location of a number; past the last, the last
 unfoldable pub locationAt : ℕ → KeyLocation
-locationAt n = lookup ((0, Standard) ∷ (1, Left) ∷ (2, Right) ∷ []) Numpad n
+locationAt n = assoc ((0, Standard) ∷ (1, Left) ∷ (2, Right) ∷ []) Numpad n

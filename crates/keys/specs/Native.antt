@@ -8,7 +8,7 @@ use lib.Signed.{mag}
 use mir.Syntax.{w32}
 use mir.Val.{ofZ, toZ}
 use Rattle.area.specs.Pick.{pick}
-use Rattle.area.specs.Look.{lookup}
+use Rattle.area.specs.Look.{assoc}
 use Rattle.keys.specs.declared.NativeKeyCode.{NativeKeyCode}
 use Rattle.keys.specs.declared.NativeKeyCode.the-variants.{Unidentified, Windows, MacOS, Gtk, Android}
 
@@ -45,7 +45,7 @@ nativeOk kind v =
 -- the native code of a kind and a value; of a kind that there is not, Unidentified
 unfoldable pub nativeAt : ℕ → ℕ → NativeKeyCode
 nativeAt kind v =
-    lookup
+    assoc
     ((1, Windows (v % 65536)) ∷ (2, MacOS (v % 65536)) ∷ (3, Gtk (v % 65536)) ∷ (4, Android (toZ w32 v)) ∷ [])
     Unidentified
     kind

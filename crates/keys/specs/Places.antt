@@ -10,12 +10,6 @@ firstNamed = 3
 abbrev pub keyCases : ℕ
 keyCases = 308
 
-abbrev pub alt : ℕ
-alt = 3
-
-abbrev pub altGraph : ℕ
-altGraph = 4
-
 abbrev pub control : ℕ
 control = 6
 

@@ -3,7 +3,7 @@
 use Prim.Native.Nat.{ℕ}
 use mathlib.Core.List.{List, [], _∷_}
 use mathlib.Core.Option.{Option, some, none}
-use Rattle.area.specs.Look.{lookup}
+use Rattle.area.specs.Look.{assoc}
 use Rattle.keys.specs.Places.{enter, tab, space, backspace, escape}
 use Rattle.keys.specs.declared.NativeKeyCode.{NativeKeyCode}
 use Rattle.keys.specs.declared.Key.{Key}
@@ -46,7 +46,7 @@ textIn (deadChar c) = []
 -- tao's Key::to_text: a character gives its text, and five control keys give one byte
 unfoldable pub toText : FullKey → Option (List ℕ)
 toText (named n) =
-    lookup
+    assoc
     ((enter, some (0x0D ∷ [])) ∷ (backspace, some (0x08 ∷ [])) ∷ (tab, some (0x09 ∷ [])) ∷ (space, some (0x20 ∷ [])) ∷ (escape, some (0x1B ∷ [])) ∷ [])
     none
     n

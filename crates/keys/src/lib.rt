@@ -1,28 +1,27 @@
 // Native key codes, key locations and keys (tao's keyboard.rs).
+pub mod key_code;
+pub mod key_number;
+pub mod native_code;
 
 // Places of cases in tao's Key: the first without a value, how many there are, and the keys that the code names.
 // places: from tao's files
-pub const FIRST_NAMED: u16 = 3;
+const FIRST_NAMED: u16 = 3;
 
-pub const KEY_CASES: u16 = 308;
-
-pub const ALT: u16 = 3;
-
-pub const ALT_GRAPH: u16 = 4;
+const KEY_CASES: u16 = 308;
 
 pub const CONTROL: u16 = 6;
 
 pub const NUM_LOCK: u16 = 9;
 
-pub const ENTER: u16 = 16;
+const ENTER: u16 = 16;
 
-pub const TAB: u16 = 17;
+const TAB: u16 = 17;
 
-pub const SPACE: u16 = 18;
+const SPACE: u16 = 18;
 
-pub const BACKSPACE: u16 = 27;
+const BACKSPACE: u16 = 27;
 
-pub const ESCAPE: u16 = 44;
+const ESCAPE: u16 = 44;
 
 pub const PAUSE: u16 = 48;
 

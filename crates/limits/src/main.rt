@@ -22,7 +22,8 @@ use lines::find;
 use lines::message_at;
 use lines::number_at;
 use lines::part;
-use peeked::Peeked;
+use message::peeked::Peeked;
+use session::AREA_SIZE;
 use session::PendingMessageToken;
 use session::ProcResult;
 use show::Said;
@@ -225,8 +226,8 @@ fn whole(
 }
 
 fn open_many(
-    session: &mut [u8; 65536],
-    answers: &mut [u8; 65536],
+    session: &mut [u8; AREA_SIZE],
+    answers: &mut [u8; AREA_SIZE],
     state: &[u8; 256],
     block: &[u8],
     m: Message,
@@ -243,8 +244,8 @@ fn open_many(
 }
 
 fn whole_many(
-    session: &mut [u8; 65536],
-    answers: &mut [u8; 65536],
+    session: &mut [u8; AREA_SIZE],
+    answers: &mut [u8; AREA_SIZE],
     state: &[u8; 256],
     block: &[u8],
     m: Message,
@@ -263,8 +264,8 @@ fn whole_many(
 
 // A line that makes many calls.
 fn show_many(
-    session: &mut [u8; 65536],
-    answers: &mut [u8; 65536],
+    session: &mut [u8; AREA_SIZE],
+    answers: &mut [u8; AREA_SIZE],
     state: &[u8; 256],
     block: &[u8],
     line: &[u8],
@@ -298,8 +299,8 @@ fn show_many(
 
 // A step with a name: what stands behind its colon, and what it gave.
 fn show_step(
-    session: &mut [u8; 65536],
-    answers: &mut [u8; 65536],
+    session: &mut [u8; AREA_SIZE],
+    answers: &mut [u8; AREA_SIZE],
     state: &[u8; 256],
     block: &[u8],
     line: &[u8],
@@ -321,10 +322,10 @@ fn show_step(
 }
 
 // A step without a name.
-fn prepare(session: &mut [u8; 65536], state: &mut [u8; 256], line: &[u8]) {
+fn prepare(session: &mut [u8; AREA_SIZE], state: &mut [u8; 256], line: &[u8]) {
     let what = byte_at(line, 0);
     if what == b'n' {
-        headerwrite::fresh(session);
+        record::write::fresh(session);
     }
     if what == b'k' {
         lines::set_keys(line, state);

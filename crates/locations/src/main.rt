@@ -1,9 +1,9 @@
 // The location of every scan code of some pages, over a block in which a code has the virtual key of its low byte.
-ghost use mathlib.Core.Path.{_≡_};
 ghost use mathlib.Core.Bool.{true};
-ghost use Rattle.block.specs.Block.{blockOk};
+ghost use mathlib.Core.Path.{_≡_};
+ghost use Rattle.lookup.specs.Block.{blockOk};
 use libc::STDOUT_FILENO;
-use lookup::block_ok;
+use lookup::block::block_ok;
 use lookup::keyboard::get_location;
 
 // Sixteen codes to a line.
@@ -11,7 +11,10 @@ fn show(block: &[u8], scancode: u16)
     requires { ⌜ blockOk (now block) ≡ true ⌝ }
 {
     let location = get_location(block, scancode);
-    io::print_decimal(STDOUT_FILENO, nativecode::location_number(location) as u64);
+    io::print_decimal(
+        STDOUT_FILENO,
+        keys::native_code::location_number(location) as u64,
+    );
     if scancode % 16 == 15 {
         io::write_all(STDOUT_FILENO, b"\n");
     }

@@ -1,1 +1,1 @@
-mod Asked
+mod CallAnswers

@@ -1,11 +1,18 @@
 // tao's KeyEventBuilder::process_message, cut at its peek: open takes a message, finish what was peeked.
+mod finishing;
+mod opening;
+pub mod peeked;
+pub mod process_message;
+mod questions;
+mod sorts;
+
 ghost use mathlib.Core.Path.{_≡_};
 ghost use Rattle.session.specs.Answers.{openOf, finishOf, openSaid, finishSaid};
 ghost use Rattle.session.specs.declared.ProcResult.{ProcResult};
-ghost use Rattle.peeked.specs.Peeked.{asPeeked};
 ghost use Rattle.message.specs.Calls.{inputs, message, left};
-use peeked::Peeked;
-use questions::Asked;
+ghost use Rattle.message.specs.Peeked.{asPeeked};
+use crate::peeked::Peeked;
+use crate::questions::Asked;
 use session::FinishAnswer;
 use session::OpenAnswer;
 use session::PendingMessageToken;
@@ -17,6 +24,7 @@ pub struct Opened {
     pub result: ProcResult,
 }
 
+// An open's answer beside the message result.
 fn answered(answer: OpenAnswer, result: ProcResult) -> Opened
     ensures { λ r. ⌜ (r .answer ≡ answer) × (r .result ≡ result) ⌝ }
 {
@@ -36,18 +44,18 @@ pub fn open(
 ) -> Opened
     ensures { λ r. ⌜ left (openSaid (r .answer)) (r .result) (now (session .exit)) (now (answers .exit)) ≡ openOf (now (session .entry)) (now (answers .entry)) result (inputs (now (state .entry)) (now (block .entry))) (message kind wparam lparam) ⌝ }
 {
-    let early = questions::ask_areas(session, answers, state, block);
+    let early = crate::questions::ask_areas(session, answers, state, block);
     if let Asked::Failed(no) = early {
         return answered(OpenAnswer::Refused(no), result); // 1 to 4
     }
-    let sort = sorts::sort_of(kind, wparam, lparam);
-    let late = sessionquestions::ask_message(session, block, state, sort, wparam);
+    let sort = crate::sorts::sort_of(kind, wparam, lparam);
+    let late = crate::questions::ask_message(session, state, block, sort, wparam);
     if let Asked::Failed(no) = late {
         return answered(OpenAnswer::Refused(no), result); // 5 to 9
     }
-    let h = entryread::header_at(session);
-    let after = dispatch::result_after(sort, h.held, kind, result);
-    let answer = dispatch::open_by(session, answers, block, state, sort, wparam, lparam);
+    let h = record::read::header_at(session);
+    let after = crate::opening::result_after(sort, h.held, kind, result);
+    let answer = crate::opening::open_by(session, answers, state, block, sort, wparam, lparam);
     answered(answer, after)
 }
 
@@ -62,14 +70,14 @@ pub fn finish(
 ) -> FinishAnswer
     ensures { λ r. ⌜ ((result : ProcResult) → left (finishSaid r) result (now (session .exit)) (now (answers .exit)) ≡ finishOf (now (session .entry)) (now (answers .entry)) result (inputs (now (state .entry)) (now (block .entry))) (token .0) (asPeeked peeked)) ⌝ }
 {
-    let early = questions::ask_areas(session, answers, state, block);
+    let early = crate::questions::ask_areas(session, answers, state, block);
     if let Asked::Failed(no) = early {
         return FinishAnswer::Refused(no);
     }
-    let late = sessionquestions::ask_finish(session, token);
+    let late = crate::questions::ask_finish(session, token);
     if let Asked::Failed(no) = late {
         return FinishAnswer::Refused(no);
     }
-    resolving::finish_open(session, answers, state, block, token, peeked);
+    crate::finishing::finish_open(session, answers, state, block, token, peeked);
     FinishAnswer::Finished
 }

@@ -1,5 +1,8 @@
 // Replays calls with tao's own answers (data/calls, whose form oracle/README.md describes), and says where an answer is another.
-use peeked::Peeked;
+use message::peeked::Peeked;
+use session::ANSWER_EVENT_SIZE;
+use session::AREA_SIZE;
+use session::COUNT_AT;
 use session::PendingMessageToken;
 use session::ProcResult;
 use show::Said;
@@ -144,8 +147,8 @@ enum Differs {
 
 fn open(
     r: &[u8],
-    session: &mut [u8; 65536],
-    answers: &mut [u8; 65536],
+    session: &mut [u8; AREA_SIZE],
+    answers: &mut [u8; AREA_SIZE],
     state: &[u8; 256],
     block: &[u8],
 ) -> Differs {
@@ -173,8 +176,8 @@ fn open(
 
 fn finish(
     r: &[u8],
-    session: &mut [u8; 65536],
-    answers: &mut [u8; 65536],
+    session: &mut [u8; AREA_SIZE],
+    answers: &mut [u8; AREA_SIZE],
     state: &[u8; 256],
     block: &[u8],
 ) -> Differs {
@@ -190,7 +193,7 @@ fn finish(
 fn session_differs(r: &[u8], session: &[u8]) -> bool {
     u16_at(session, 0) != u16_at(r, 43)
         || byte_at(session, 2) != byte_at(r, 45)
-        || u16_at(session, 107) != u16_at(r, 46)
+        || u16_at(session, COUNT_AT) != u16_at(r, 46)
 }
 
 fn areas_differ(r: &[u8], session: &[u8], answers: &[u8], expected: &[u8]) -> Differs {
@@ -218,13 +221,13 @@ fn show_event_place(at: usize) {
         return;
     }
     text(b"event ");
-    decimal(((at - 2) / 196) as u64);
+    decimal(((at - 2) / ANSWER_EVENT_SIZE) as u64);
     text(b", byte ");
-    decimal(((at - 2) % 196) as u64);
+    decimal(((at - 2) % ANSWER_EVENT_SIZE) as u64);
 }
 
 // What the last call of a script did otherwise than tao; nothing where it did not.
-fn show_difference(d: Differs, answers: &[u8; 65536], expected: &[u8; 65536]) {
+fn show_difference(d: Differs, answers: &[u8; AREA_SIZE], expected: &[u8; AREA_SIZE]) {
     match d {
         Differs::Nowhere => {}
         Differs::Answer => text(b"another answer\n"),
@@ -252,8 +255,8 @@ struct Played {
 fn call(
     what: u8,
     r: &[u8],
-    session: &mut [u8; 65536],
-    answers: &mut [u8; 65536],
+    session: &mut [u8; AREA_SIZE],
+    answers: &mut [u8; AREA_SIZE],
     state: &[u8; 256],
     block: &[u8],
 ) -> Differs {
@@ -267,9 +270,9 @@ fn call(
 fn play_call(
     d: &[u8],
     at: usize,
-    session: &mut [u8; 65536],
-    answers: &mut [u8; 65536],
-    expected: &mut [u8; 65536],
+    session: &mut [u8; AREA_SIZE],
+    answers: &mut [u8; AREA_SIZE],
+    expected: &mut [u8; AREA_SIZE],
     state: &[u8; 256],
     block: &[u8],
 ) -> Played {
@@ -300,9 +303,9 @@ fn unpack_state(d: &[u8], from: usize, state: &mut [u8; 256]) -> usize {
 fn play(
     d: &[u8],
     from: usize,
-    session: &mut [u8; 65536],
-    answers: &mut [u8; 65536],
-    expected: &mut [u8; 65536],
+    session: &mut [u8; AREA_SIZE],
+    answers: &mut [u8; AREA_SIZE],
+    expected: &mut [u8; AREA_SIZE],
 ) -> Played {
     let mut state = [0u8; 256];
     let mut block = Part { from: 0, to: 0 };
@@ -310,7 +313,7 @@ fn play(
     let mut calls: u64 = 0;
     let mut events: u64 = 0;
     let mut turn: usize = 0;
-    headerwrite::fresh(session);
+    record::write::fresh(session);
     while turn < d.len() {
         let what = byte_at(d, at);
         if what < 2 {
@@ -373,9 +376,9 @@ fn first_script(d: &[u8]) -> usize {
 fn play_named(
     d: &[u8],
     from: usize,
-    session: &mut [u8; 65536],
-    answers: &mut [u8; 65536],
-    expected: &mut [u8; 65536],
+    session: &mut [u8; AREA_SIZE],
+    answers: &mut [u8; AREA_SIZE],
+    expected: &mut [u8; AREA_SIZE],
 ) -> Played {
     let length = wide(byte_at(d, from));
     let name = part_from(d, behind(d, from), length);

@@ -1,7 +1,7 @@
 // All 65,536 scan codes: each that is identified with its key code's place, then how many are unidentified with their own code.
 ghost use Prim.Native.Nat.{_≤_};
 use libc::STDOUT_FILENO;
-use lookup::keycode_from_scancode;
+use lookup::keycode::keycode_from_scancode;
 
 // Whether a native code is Windows' with that scan code.
 fn is_own(native: keys::NativeKeyCode, scancode: u16) -> bool {
@@ -29,12 +29,12 @@ fn show(scancode: u16) -> u64
     ensures { λ r. ⌜ r ≤ 1 ⌝ }
 {
     let code = keycode_from_scancode(scancode);
-    let number = codenumber::code_number(code);
+    let number = keys::key_code::code_number(code);
     if number != 0 {
         show_code(scancode, number);
         return 0;
     }
-    if is_own(keycode::code_native(code), scancode) {
+    if is_own(keys::key_code::code_native(code), scancode) {
         return 1;
     }
     show_odd(scancode);

@@ -4,7 +4,7 @@ use mathlib.Core.Path.{_≡_, refl, sym, ap, _∙_}
 use mathlib.Core.Bool.{Bool, true, false, _&&_, and-eq-true-iff}
 use mathlib.Core.List.{List, [], _∷_}
 use mathlib.Core.Option.{Option, some, none}
-use Prim.Native.Nat.{ℕ, zero, suc, _+_, _^_, _≤_, _<_, zero-le}
+use Prim.Native.Nat.{ℕ, zero, suc, _^_, _≤_, _<_, zero-le}
 use native.Mathlib.Omega.{arith}
 use lib.Dec.{eqb, ltb, leb}
 use lib.ListN.{length, replicate}
@@ -20,14 +20,14 @@ use Rattle.keys.specs.declared.Key.{Key}
 use Rattle.keys.specs.declared.Key.the-variants.{Character}
 use Rattle.keys.proofs.Numbers.{location-below, location-back, location-exact, key-back, key-exact, key-below, number-character}
 use Rattle.keys.proofs.Full.{full-bare, bare-full, text-character, text-empty, text-none}
-use Rattle.keystroke.specs.declared.KeyLParam.{KeyLParam}
-use Rattle.listkey.specs.CodeKey.{codeFits, codeKey, codeOfKey, codeKeyOk}
-use Rattle.listkey.proofs.CodeKeys.{code-key-back, code-key-exact, code-key-below}
-use Rattle.session.specs.Limits.{AREA, OPEN-MOST, ENTRIES-MOST, TOKENS-MOST, UNITS-MOST, TEXT-MOST, KEY-TEXT-MOST}
+use Rattle.lookup.specs.declared.keyboard.KeyLParam.{KeyLParam}
+use Rattle.keys.specs.CodeKey.{codeFits, codeKey, codeOfKey, codeKeyOk}
+use Rattle.keys.proofs.key_code.CodeKeys.{code-key-back, code-key-exact, code-key-below}
+use Rattle.session.specs.Limits.{AREA, OPEN-MOST, ENTRIES-MOST, TOKENS-MOST, UNITS-MOST, TEXT-MOST, KEY-TEXT-MOST, ENTRY-SIZE, EVENT-SIZE, HELD-FIELD-SIZE, HELD-SIZE, INFO-SIZE, WAIT-SIZE, WORD}
 use Rattle.session.specs.Codec.{byte, number, nothing, pair, checked, via, slot, Either, left, right, either, listOf}
 use Rattle.session.specs.Event.{Event, Info, Held}
 use Rattle.session.specs.Session.{Wait, press, release, character, Entry, waiting, complete, Session, freshSession, tokenOf, openCount, rising, firstOpen, unitsWithin, inOrder, textFits, optTextFits, fullKeyFits, eventFits, allFit, infoFits, unitsFit, heldFits, waitFits, entryFits, entriesFit, isSession}
-use Rattle.session.specs.Area.{flagNumber, flag, stateNumber, state, location, bytesOf, textFrom, textBytes, optText, keyCode, keyTextOk, keyFieldsOk, fullKey, event, info, held, pressed, toWait, fromWait, INFO, WAIT, EVENT, HELD, wait, toEntry, entryOf, entry, toHeld, fromHeld, heldField, session, encode, decode, sessionOk, answer, encodeAnswer, decodeAnswer}
+use Rattle.session.specs.Area.{flagNumber, flag, stateNumber, state, location, bytesOf, textFrom, textBytes, optText, keyCode, keyTextOk, keyFieldsOk, fullKey, event, info, held, pressed, toWait, fromWait, wait, toEntry, entryOf, entry, toHeld, fromHeld, heldField, session, encode, decode, sessionOk, answer, encodeAnswer, decodeAnswer}
 use Rattle.session.specs.Answers.{freshArea}
 use Rattle.session.specs.declared.ElementState.{ElementState}
 use Rattle.session.specs.declared.ElementState.the-variants.{Pressed, Released}
@@ -237,7 +237,7 @@ event-sound =
     (λ e h. let p = event-parts e h in ((p .0, (p .1, (p .2, (tt, (tt, (tt, (tt, (p .3, p .4)))))))), refl))
     (λ n f. (event-fits _ (f .0) (f .1 .0) (f .1 .1 .0) (f .1 .1 .1 .1 .1 .1 .1 .0) (f .1 .1 .1 .1 .1 .1 .1 .1), refl))
 
-pub event-width : event .width ≡ EVENT
+pub event-width : event .width ≡ EVENT-SIZE
 unfolding event via pair number byte flag state checked location keyCode fullKey textBytes optText listOf
 event-width = refl
 
@@ -245,18 +245,18 @@ event-width = refl
 
 info-parts :
     (n : Info) → infoFits n ≡ true →
-    (n .scancode < 65536) × (fullKeyFits KEY-TEXT-MOST (n .logicalKey) ≡ true) × (fullKeyFits KEY-TEXT-MOST (n .keyWithoutModifiers) ≡ true)
+    (n .scancode < WORD) × (fullKeyFits KEY-TEXT-MOST (n .logicalKey) ≡ true) × (fullKeyFits KEY-TEXT-MOST (n .keyWithoutModifiers) ≡ true)
 unfolding infoFits
 info-parts n h =
-    let a = and-eq-true-iff (ltb (n .scancode) 65536) _ .0 h in
+    let a = and-eq-true-iff (ltb (n .scancode) WORD) _ .0 h in
     let b = and-eq-true-iff (fullKeyFits KEY-TEXT-MOST (n .logicalKey)) _ .0 (a .1) in
-    (ltb-true (n .scancode) 65536 (a .0), b .0, b .1)
+    (ltb-true (n .scancode) WORD (a .0), b .0, b .1)
 
 info-fits :
-    (n : Info) → n .scancode < 65536 → fullKeyFits KEY-TEXT-MOST (n .logicalKey) ≡ true →
+    (n : Info) → n .scancode < WORD → fullKeyFits KEY-TEXT-MOST (n .logicalKey) ≡ true →
     fullKeyFits KEY-TEXT-MOST (n .keyWithoutModifiers) ≡ true → infoFits n ≡ true
 unfolding infoFits
-info-fits n a b c = rw (lt-ltb (n .scancode) 65536 a, b, c)
+info-fits n a b c = rw (lt-ltb (n .scancode) WORD a, b, c)
 
 info-sound : Sound info (λ n. infoFits n ≡ true)
 unfolding info
@@ -266,7 +266,7 @@ info-sound =
     (λ n h. let p = info-parts n h in ((p .0, (tt, (tt, (p .1, p .2)))), refl))
     (λ n f. (info-fits _ (f .0) (f .1 .1 .1 .0) (f .1 .1 .1 .1), refl))
 
-pub info-width : info .width ≡ INFO
+pub info-width : info .width ≡ INFO-SIZE
 unfolding info via pair number byte flag checked location fullKey textBytes listOf
 info-width = refl
 
@@ -274,26 +274,26 @@ units-below : (us : List ℕ) → unitsFit us ≡ true → All (λ u. u < 256 ^ 
 unfolding unitsFit
 units-below [] h = tt
 units-below (u ∷ us) h =
-    let t = and-eq-true-iff (ltb u 65536) (unitsFit us) .0 h in (ltb-true u 65536 (t .0), units-below us (t .1))
+    let t = and-eq-true-iff (ltb u WORD) (unitsFit us) .0 h in (ltb-true u WORD (t .0), units-below us (t .1))
 
 units-fit : (us : List ℕ) → All (λ u. u < 256 ^ 2) us → unitsFit us ≡ true
 unfolding unitsFit
 units-fit [] h = refl
-units-fit (u ∷ us) h = rw (lt-ltb u 65536 (h .0)) (units-fit us (h .1))
+units-fit (u ∷ us) h = rw (lt-ltb u WORD (h .0)) (units-fit us (h .1))
 
 abbrev pub HeldFits : Held → Type 0
 HeldFits h = (heldFits (some h) ≡ true) × (length (h .units) ≤ UNITS-MOST)
 
-held-parts : (h : Held) → heldFits (some h) ≡ true → (infoFits (h .info) ≡ true) × (h .vkey < 65536) × All (λ u. u < 256 ^ 2) (h .units)
+held-parts : (h : Held) → heldFits (some h) ≡ true → (infoFits (h .info) ≡ true) × (h .vkey < WORD) × All (λ u. u < 256 ^ 2) (h .units)
 unfolding heldFits
 held-parts h e =
     let a = and-eq-true-iff (infoFits (h .info)) _ .0 e in
-    let b = and-eq-true-iff (ltb (h .vkey) 65536) (unitsFit (h .units)) .0 (a .1) in
-    (a .0, ltb-true (h .vkey) 65536 (b .0), units-below (h .units) (b .1))
+    let b = and-eq-true-iff (ltb (h .vkey) WORD) (unitsFit (h .units)) .0 (a .1) in
+    (a .0, ltb-true (h .vkey) WORD (b .0), units-below (h .units) (b .1))
 
-held-fits : (h : Held) → infoFits (h .info) ≡ true → h .vkey < 65536 → All (λ u. u < 256 ^ 2) (h .units) → heldFits (some h) ≡ true
+held-fits : (h : Held) → infoFits (h .info) ≡ true → h .vkey < WORD → All (λ u. u < 256 ^ 2) (h .units) → heldFits (some h) ≡ true
 unfolding heldFits
-held-fits h a b c = rw (a, lt-ltb (h .vkey) 65536 b) (units-fit (h .units) c)
+held-fits h a b c = rw (a, lt-ltb (h .vkey) WORD b) (units-fit (h .units) c)
 
 held-sound : Sound held HeldFits
 unfolding held
@@ -303,21 +303,21 @@ held-sound =
     (λ h f. let p = held-parts h (f .0) in ((p .0, (p .1, (tt, (f .1, p .2)))), refl))
     (λ n f. ((held-fits _ (f .0) (f .1 .0) (f .1 .1 .1 .1), f .1 .1 .1 .0), refl))
 
-pub held-width : held .width ≡ HELD
+pub held-width : held .width ≡ HELD-SIZE
 unfolding held via pair number flag checked byte listOf
 held-width = omega (arith, info-width)
 
 -- ---- an entry
 
-press-parts : (vkey : ℕ) (l : KeyLParam) → waitFits (press vkey l) ≡ true → (vkey < 65536) × (l .scancode < 256)
+press-parts : (vkey : ℕ) (l : KeyLParam) → waitFits (press vkey l) ≡ true → (vkey < WORD) × (l .scancode < 256)
 unfolding waitFits
 press-parts vkey l h =
-    let t = and-eq-true-iff (ltb vkey 65536) (ltb (l .scancode) 256) .0 h in
-    (ltb-true vkey 65536 (t .0), ltb-true (l .scancode) 256 (t .1))
+    let t = and-eq-true-iff (ltb vkey WORD) (ltb (l .scancode) 256) .0 h in
+    (ltb-true vkey WORD (t .0), ltb-true (l .scancode) 256 (t .1))
 
-press-fits : (vkey : ℕ) (l : KeyLParam) → vkey < 65536 → l .scancode < 256 → waitFits (press vkey l) ≡ true
+press-fits : (vkey : ℕ) (l : KeyLParam) → vkey < WORD → l .scancode < 256 → waitFits (press vkey l) ≡ true
 unfolding waitFits
-press-fits vkey l a b = rw (lt-ltb vkey 65536 a, lt-ltb (l .scancode) 256 b)
+press-fits vkey l a b = rw (lt-ltb vkey WORD a, lt-ltb (l .scancode) 256 b)
 
 pressed-sound : Sound pressed (λ p. waitFits (press (p .0) (p .1)) ≡ true)
 unfolding pressed
@@ -344,7 +344,7 @@ wait-exact (left p) h = (h, refl)
 wait-exact (right (left n)) h = (h, refl)
 wait-exact (right (right u)) h = (refl, refl)
 
-pressed-width : pressed .width ≤ WAIT
+pressed-width : pressed .width ≤ WAIT-SIZE
 unfolding pressed via pair number byte flag checked
 pressed-width = omega arith
 
@@ -352,7 +352,7 @@ nothing-width : (w : ℕ) → nothing .width ≤ w
 unfolding nothing
 nothing-width w = zero-le
 
-waits-width : slot WAIT pressed .width ≡ either info (slot INFO nothing) .width
+waits-width : slot WAIT-SIZE pressed .width ≡ either info (slot INFO-SIZE nothing) .width
 unfolding slot either
 waits-width = ap suc (sym info-width)
 
@@ -360,11 +360,11 @@ wait-sound : Sound wait (λ w. waitFits w ≡ true)
 unfolding wait
 wait-sound =
     via-sound toWait fromWait
-    (either-sound waits-width (slot-sound WAIT pressed-width pressed-sound) (either-sound (info-width ∙ sym (slot-width INFO nothing)) info-sound (slot-sound INFO (nothing-width INFO) nothing-sound)))
+    (either-sound waits-width (slot-sound WAIT-SIZE pressed-width pressed-sound) (either-sound (info-width ∙ sym (slot-width INFO-SIZE nothing)) info-sound (slot-sound INFO-SIZE (nothing-width INFO-SIZE) nothing-sound)))
     wait-back wait-exact
 
 abbrev pub EntryFits : Entry → Type 0
-EntryFits x = (tokenOf x < 65536) × (entryFits x ≡ true)
+EntryFits x = (tokenOf x < WORD) × (entryFits x ≡ true)
 
 abbrev EitherFits : Either Wait Event → Type 0
 EitherFits = OneOf (λ w. waitFits w ≡ true) (λ e. eventFits e ≡ true)
@@ -379,14 +379,14 @@ unfolding entryFits
 entry-exact t (left w) a b = ((a, b), refl)
 entry-exact t (right e) a b = ((a, b), refl)
 
-wait-width : wait .width ≤ EVENT
+wait-width : wait .width ≤ EVENT-SIZE
 unfolding wait via either slot
 wait-width = omega arith
 
 pub entry-sound : Sound entry EntryFits
 unfolding entry
 entry-sound =
-    via-sound toEntry _ (pair-sound (number-sound 2) (either-sound (slot-width EVENT wait ∙ sym event-width) (slot-sound EVENT wait-width wait-sound) event-sound))
+    via-sound toEntry _ (pair-sound (number-sound 2) (either-sound (slot-width EVENT-SIZE wait ∙ sym event-width) (slot-sound EVENT-SIZE wait-width wait-sound) event-sound))
     entry-back (λ p f. entry-exact (p .0) (p .1) (f .0) (f .1))
 
 -- ---- the session
@@ -407,18 +407,18 @@ opt-held-exact (right h) f = (f, refl)
 pub opt-held-sound : Sound heldField OptHeldFits
 unfolding heldField
 opt-held-sound =
-    via-sound toHeld fromHeld (either-sound (slot-width HELD nothing ∙ sym held-width) (slot-sound HELD (nothing-width HELD) nothing-sound) held-sound)
+    via-sound toHeld fromHeld (either-sound (slot-width HELD-SIZE nothing ∙ sym held-width) (slot-sound HELD-SIZE (nothing-width HELD-SIZE) nothing-sound) held-sound)
     opt-held-back opt-held-exact
 
 abbrev pub SessionFits : Session → Type 0
 SessionFits s =
-    (s .handed < 65536) × (OptHeldFits (s .held) × ((length (s .entries) ≤ ENTRIES-MOST) × All EntryFits (s .entries)))
+    (s .handed < WORD) × (OptHeldFits (s .held) × ((length (s .entries) ≤ ENTRIES-MOST) × All EntryFits (s .entries)))
 
-pub held-field-width : heldField .width ≡ suc HELD
+pub held-field-width : heldField .width ≡ HELD-FIELD-SIZE
 unfolding heldField via either slot
 held-field-width = refl
 
-pub entry-width : entry .width ≡ 3 + EVENT
+pub entry-width : entry .width ≡ ENTRY-SIZE
 unfolding entry via pair number either slot
 entry-width = refl
 
@@ -532,7 +532,7 @@ fresh-zeros : Zeros session freshSession
 unfolding session heldField freshSession
 fresh-zeros =
     slot-zeros AREA _ _ (unfold via pair number listOf in omega (arith, held-field-width, entry-width))
-    (via-zeros _ _ _ _ (pair-zeros _ _ _ _ (number-zeros 2) (pair-zeros _ _ _ _ (via-zeros _ _ _ _ (left-zeros _ _ _ (slot-zeros HELD _ _ (nothing-width HELD) nothing-zeros))) (list-zeros 2 ENTRIES-MOST _))))
+    (via-zeros _ _ _ _ (pair-zeros _ _ _ _ (number-zeros 2) (pair-zeros _ _ _ _ (via-zeros _ _ _ _ (left-zeros _ _ _ (slot-zeros HELD-SIZE _ _ (nothing-width HELD-SIZE) nothing-zeros))) (list-zeros 2 ENTRIES-MOST _))))
 
 pub fresh-area : encode freshSession ≡ freshArea
 unfolding encode freshArea

@@ -11,15 +11,14 @@ use lib.ListN.{length}
 use borrow.Author.Tests.{lt-ltb, le-ltb}
 use Rattle.area.specs.Pick.{pick}
 use Rattle.session.specs.Event.{Event, Held}
-use Rattle.session.specs.Session.{Session}
 use Rattle.session.specs.Area.{encode}
 use Rattle.session.specs.Answers.{Outcome}
 use Rattle.session.specs.Book.{Arrival, Press, Note, heldIn}
-use Rattle.session.specs.Run.{Call, State, start, run, InRange}
+use Rattle.session.specs.Run.{Call, State, start, run, CallsInRange}
 use Rattle.session.specs.Corollaries.{earliest, before, NeverLate, NoHistory}
-use Rattle.session.proofs.Lists.{All, all-map}
+use Rattle.session.proofs.Lists.{All}
 use Rattle.session.proofs.Queue.{Done, Stack, base, push, noteOf, eventOf, dones, bottom, openedOf, Wf}
-use Rattle.session.proofs.Steps.{Paper, view, Good}
+use Rattle.session.proofs.Steps.{Paper, view}
 use Rattle.session.proofs.Runs.{start-fine, areaOf, start-area, Ran, run-fine}
 
 -- ---- what the state after any calls is
@@ -33,7 +32,7 @@ pub record Reached (st : State) : Type 0 where
   pub wf : Wf c h stack
   pub same : st ≡ areaOf (view stack h c p) outcomes
 
-reached : (cs : List Call) → InRange cs → Reached (run start cs)
+reached : (cs : List Call) → CallsInRange cs → Reached (run start cs)
 reached cs r =
     let ran : Ran _ [] cs = run-fine cs _ [] start-fine r in
     let g = ran .fine .inv in

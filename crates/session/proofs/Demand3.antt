@@ -1,31 +1,29 @@
 -- Demand 3: specs/Demand3.antt has the statement.
 -- Assumes nothing.
 use mathlib.Core.Path.{_≡_, refl, ap, sym, _∙_, subst}
-use mathlib.Core.Bool.{Bool, true, false}
+use mathlib.Core.Bool.{true}
 use mathlib.Core.List.{List, [], _∷_, _++_, append-assoc, append-nil, map}
 use mathlib.Core.Option.{Option, some, none}
-use Prim.Native.Nat.{ℕ, zero, suc, _+_, _≤_, _<_}
+use Prim.Native.Nat.{ℕ, _+_}
 use native.Mathlib.Omega.{arith}
-use lib.Dec.{eqb}
 use lib.ListN.{length}
 use borrow.Author.Tests.{eq-eqb}
-use Rattle.block.specs.Block.{blockOk}
 use Rattle.session.specs.Limits.{AREA, KEYS}
-use Rattle.session.specs.Given.{Message, Inputs, Given, brought, finished, inputsOf}
+use Rattle.session.specs.Given.{Message, Inputs, Given, finished}
 use Rattle.session.specs.Event.{Event}
 use Rattle.session.specs.Builder.{keyboardOf}
-use Rattle.session.specs.Session.{Session, waiting, freshSession, isSession}
+use Rattle.session.specs.Session.{Session, freshSession}
 use Rattle.session.specs.Area.{encode, decode, sessionOk, encodeAnswer}
 use Rattle.session.specs.Calls.{Effect, finishEvent, effectOf}
-use Rattle.session.specs.Questions.{isToken, lastToken, question1, question2, question3, question10, firstNo, messageQuestions, finishQuestions, sessionQuestions}
+use Rattle.session.specs.Questions.{question1, question2, question3, question10, firstNo, messageQuestions, finishQuestions, sessionQuestions}
 use Rattle.session.specs.Answers.{Outcome, refused, answered, outcomeBy, freshArea}
-use Rattle.session.specs.Book.{Book, Arrival, Press, Note, emptyBook, heldIn}
-use Rattle.session.specs.Run.{Call, State, Closing, start, joined, next, run, closings, InRange, ClosingsInRange}
+use Rattle.session.specs.Book.{Arrival, Press, Note, heldIn}
+use Rattle.session.specs.Run.{Call, State, Closing, start, joined, next, run, closings, ClosingsInRange}
 use Rattle.session.specs.Demand3.{WellFormed, AllWellFormed, Answered, NoFour, Rising, Closed, Demand3}
-use Rattle.session.proofs.Queue.{Done, Stack, base, push, waitOf, entryOf, noteOf, eventOf, flat, dones, tokensOf, app, Wf, last-at, kept, tokens-app, finish-wf}
+use Rattle.session.proofs.Queue.{Done, Stack, base, push, waitOf, noteOf, eventOf, flat, dones, tokensOf, app, Wf, last-at, kept, tokens-app, finish-wf}
 use Rattle.session.proofs.Area.{session-back, fresh-area}
 use Rattle.session.proofs.Fits.{keyboard-ok}
-use Rattle.session.proofs.Steps.{Paper, done, view, Good, heldNext, finish-good}
+use Rattle.session.proofs.Steps.{Paper, done, view, heldNext, finish-good}
 use Rattle.session.proofs.Kept.{Keeps}
 use Rattle.session.proofs.Runs.{Fine, start-fine, view-session, areaOf, start-area, asked, next-by, answered-next, Ran, four-append, run-fine}
 use Rattle.session.proofs.Rising.{run-noted, start-noted}
@@ -40,7 +38,7 @@ unfolding firstNo sessionQuestions question10 messageQuestions finishQuestions
 latest-passes S t h c a D p i pk = rw (last-at (flat S) D t (waitOf a), eq-eqb t t refl) refl
 
 -- the finish of the latest message, with well-formed inputs, passes every question
-closing-passes :
+pub closing-passes :
     (S : Stack) (t h c : ℕ) (a : Arrival) (D : List Done) (p : Option Press) (k : Closing) →
     Wf c h (push S t a D) → Keeps (view (push S t a D) h c p .session) → WellFormed k →
     firstNo (asked (view (push S t a D) h c p) (record { given = finished (k .inputs) t (k .peeked); answers = k .answers })) ≡ none
@@ -78,12 +76,12 @@ ended (q ∷ ks) (push S t a D) h c p os w k r f l =
     let v' : Paper = view (app S L) h c (heldNext p a (q .inputs) (q .peeked)) in
     let e : Effect = effectOf (v .session) g in
     let o : Outcome = answered (e .token) (encode (e .after)) (encodeAnswer (e .events)) in
-    let n = answered-next v os g fine (keyboard-ok (q .inputs) (r .0 .1) (f .0 .block)) (latest-passes S t h c a D p (q .inputs) (q .peeked)) in
+    let n = answered-next v os g fine (keyboard-ok (q .inputs) (r .0) (f .0 .block)) (latest-passes S t h c a D p (q .inputs) (q .peeked)) in
     let d : done v g e ≡ v' = finish-good S t h c a D p (q .inputs) (q .peeked) w in
     let one : next (areaOf v os) call ≡ areaOf v' (os ++ (o ∷ []))
     = next-by v os call fine ∙ ap (λ (x : Option ℕ). joined (areaOf v os) g (outcomeBy x (v .session) g)) passes ∙ n .0 ∙ ap (λ (x : Paper). areaOf x (os ++ (o ∷ []))) d in
     let rest = ended ks (app S L) h c (heldNext p a (q .inputs) (q .peeked)) (os ++ (o ∷ [])) (finish-wf S t h c a D (finishEvent (keyboardOf (q .inputs)) (heldIn p) (waitOf a) (q .peeked)) w)
-    (subst (λ (x : Paper). Keeps (x .session)) d (n .1 .keeps)) (r .3) (f .1) (rw (tokens-app S L) (omega arith)) in
+    (subst (λ (x : Paper). Keeps (x .session)) d (n .1 .keeps)) (r .1) (f .1) (rw (tokens-app S L) (omega arith)) in
     record {
       handed-out = rest .handed-out;
       held = rest .held;

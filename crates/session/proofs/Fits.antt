@@ -4,14 +4,14 @@ use mathlib.Core.Path.{_≡_, refl}
 use mathlib.Core.Bool.{Bool, true, false, and-eq-true-iff}
 use mathlib.Core.List.{List, [], _∷_, _++_}
 use mathlib.Core.Option.{Option, some, none}
-use Prim.Native.Nat.{ℕ, zero, suc, _+_, _≤_, _<_}
+use Prim.Native.Nat.{ℕ, suc, _+_, _≤_, _<_}
 use native.Mathlib.Omega.{arith}
 use lib.Dec.{eqb, ltb}
-use lib.ListN.{length, length-append}
+use lib.ListN.{length}
 use borrow.Author.Tests.{lt-ltb, ltb-true}
-use Rattle.area.specs.Pick.{pick}
-use Rattle.area.specs.Look.{lookup}
+use Rattle.area.specs.Look.{assoc}
 use Rattle.area.specs.Bytes.{Bytes}
+use Rattle.area.proofs.Pick.{chosen}
 use Rattle.text.specs.Unicode.{Units}
 use Rattle.text.specs.Message.{charUnits}
 use Rattle.text.specs.Pieces.{severalIn}
@@ -19,17 +19,17 @@ use Rattle.text.proofs.Message.{char-units}
 use Rattle.keys.specs.Places.{numLock, pause}
 use Rattle.keys.specs.Text.{FullKey}
 use Rattle.keys.specs.Key.{namedOk}
-use Rattle.keycode.specs.declared.KeyCode.{KeyCode}
-use Rattle.keycode.specs.Number.{codeNumber}
-use Rattle.listkey.specs.CodeKey.{codeFits}
-use Rattle.scancode.specs.Codes.{keyCodeOf}
-use Rattle.keystroke.specs.LParam.{keyLParam, exScancode, virtualKey}
-use Rattle.keystroke.specs.declared.KeyLParam.{KeyLParam}
-use Rattle.block.specs.Maps.{MapsOk}
-use Rattle.block.specs.Block.{blockOk}
-use Rattle.block.proofs.Only.{maps-exact}
-use Rattle.layout.specs.Layout.{getKey, scanCodeFor, messageScancode}
-use Rattle.session.specs.Limits.{KEYS, ENTRIES-MOST, UNITS-MOST, TEXT-MOST, KEY-TEXT-MOST}
+use Rattle.keys.specs.declared.key_code.KeyCode.{KeyCode}
+use Rattle.keys.specs.Number.{codeNumber}
+use Rattle.keys.specs.CodeKey.{codeFits}
+use Rattle.lookup.specs.Codes.{keyCodeOf}
+use Rattle.lookup.specs.declared.keyboard.KeyLParam.{KeyLParam}
+use Rattle.lookup.specs.Maps.{MapsOk}
+use Rattle.lookup.specs.Block.{blockOk}
+use Rattle.lookup.proofs.block.MapsExact.{maps-exact}
+use Rattle.lookup.proofs.keyboard_layout.Ranges.{Each, or-else, scan-code-below, message-scancode-below, code-fits}
+use Rattle.lookup.specs.Layout.{getKey, scanCodeFor, messageScancode}
+use Rattle.session.specs.Limits.{ENTRIES-MOST, UNITS-MOST, TEXT-MOST, KEY-TEXT-MOST, WORD}
 use Rattle.session.specs.Given.{Inputs}
 use Rattle.session.specs.Event.{Event, Info, Held}
 use Rattle.session.specs.Session.{optTextFits, fullKeyFits, eventFits, allFit, infoFits, unitsFit, heldFits}
@@ -37,7 +37,7 @@ use Rattle.session.specs.Builder.{Keyboard, keyboardOf, modifiersIn, lay
 use Rattle.session.specs.Focus.{modifierKeys, isOther, othersFrom, focusKeys, focusKey, focusText, syntheticEvent, written, syntheticEvents, focusEvents}
 use Rattle.session.specs.declared.ElementState.{ElementState}
 use Rattle.session.specs.declared.ElementState.the-variants.{Pressed, Released}
-use Rattle.session.proofs.Ranges.{chosen, Each, or-else, code-fits, typed-fits, named-fits, character-fits, unidentified-fits, KeyFits, key-wider, undead-fits, to-text-fits, get-key-fits, scan-code-below}
+use Rattle.session.proofs.Ranges.{typed-fits, named-fits, character-fits, unidentified-fits, KeyFits, key-wider, undead-fits, to-text-fits, get-key-fits}
 
 -- the layout's maps meet the conditions of question 3
 abbrev pub KeyboardOk : Keyboard → Type 0
@@ -48,29 +48,14 @@ pub keyboard-ok : (i : Inputs) → Bytes (i .block) → blockOk (i .block) ≡ t
 unfolding keyboardOf
 keyboard-ok i bytes ok = maps-exact (i .block) bytes ok .0
 
--- ---- messages
-
-pub vkey-small : (w : ℕ) → virtualKey w < 65536
-unfolding virtualKey
-vkey-small w = omega arith
-
-pub scan-small : (l : ℕ) → keyLParam l .scancode < 256
-unfolding keyLParam
-scan-small l = omega arith
-
 -- ---- the layout's keys
 
 pub layout-fits :
-    (b : Keyboard) (mods : ℕ) (num : Bool) (vkey scancode : ℕ) → KeyboardOk b → scancode < 65536 →
+    (b : Keyboard) (mods : ℕ) (num : Bool) (vkey scancode : ℕ) → KeyboardOk b → scancode < WORD →
     fullKeyFits KEY-TEXT-MOST (getKey (b .layout) mods num vkey scancode (keyCodeOf scancode)) ≡ true
 layout-fits b mods num vkey scancode ok h = get-key-fits (b .layout) ok mods num vkey scancode (keyCodeOf scancode) h
 
 -- ---- from_message
-
-ex-below : (s : ℕ) (extended : Bool) → s < 256 → exScancode s extended < 65536
-unfolding exScancode
-ex-below s true h = omega arith
-ex-below s false h = omega arith
 
 -- the keys that are forced with Control on
 forced-named : (namedOk numLock ≡ true) × (namedOk pause ≡ true)
@@ -78,7 +63,7 @@ unfolding namedOk
 forced-named = (refl, refl)
 
 forced-code : (b : Bool) (c : KeyCode) → Each KeyFits (codeAsKey b c)
-unfolding codeAsKey lookup
+unfolding codeAsKey assoc
 forced-code false c = tt
 forced-code true c =
     chosen (Each KeyFits) (eqb (codeNumber c) _) (named-fits KEY-TEXT-MOST numLock (forced-named .0))
@@ -88,78 +73,72 @@ forced-fits : (b : Keyboard) (scancode : ℕ) → Each KeyFits (forcedKey b scan
 unfolding forcedKey
 forced-fits b scancode = forced-code (modifiersIn b .control) (keyCodeOf scancode)
 
-module _ (b : Keyboard) (ok : KeyboardOk b) (vkey : ℕ) where
-  message-scancode-below : (l : KeyLParam) → l .scancode < 256 → messageScancode (b .layout) vkey l < 65536
-  unfolding messageScancode
-  message-scancode-below l h =
-      chosen (λ n. n < 65536) (eqb (l .scancode) 0) (scan-code-below (b .layout) ok vkey) (ex-below (l .scancode) (l .extended) h)
+module _ (b : Keyboard) (ok : KeyboardOk b) (vkey scancode : ℕ) (h : scancode < WORD) where
+  layout-key-fits : KeyFits (layoutKey b vkey scancode)
+  unfolding layoutKey
+  layout-key-fits = layout-fits b _ _ vkey scancode ok h
 
-  module _ (scancode : ℕ) (h : scancode < 65536) where
-    layout-key-fits : KeyFits (layoutKey b vkey scancode)
-    unfolding layoutKey
-    layout-key-fits = layout-fits b _ _ vkey scancode ok h
-
-    plain-key-fits : KeyFits (plainKey b vkey scancode)
-    unfolding plainKey
-    plain-key-fits = layout-fits b _ _ vkey scancode ok h
+  plain-key-fits : KeyFits (plainKey b vkey scancode)
+  unfolding plainKey
+  plain-key-fits = layout-fits b _ _ vkey scancode ok h
 
 info-in :
-    (n : Info) → n .scancode < 65536 → KeyFits (n .logicalKey) → KeyFits (n .keyWithoutModifiers) → infoFits n ≡ true
+    (n : Info) → n .scancode < WORD → KeyFits (n .logicalKey) → KeyFits (n .keyWithoutModifiers) → infoFits n ≡ true
 unfolding infoFits
-info-in n h a b = rw (lt-ltb (n .scancode) 65536 h, a, b)
+info-in n h a b = rw (lt-ltb (n .scancode) WORD h, a, b)
 
 pub info-fits : (b : Keyboard) (vkey : ℕ) (l : KeyLParam) → KeyboardOk b → l .scancode < 256 → infoFits (fromMessage b vkey l) ≡ true
 unfolding fromMessage
 info-fits b vkey l ok h =
     let s : ℕ = messageScancode (b .layout) vkey l in
-    let n : s < 65536 = message-scancode-below b ok vkey l h in
+    let n : s < WORD = message-scancode-below (b .layout) ok vkey l h in
     info-in (fromMessage b vkey l) n
     (or-else KeyFits (forcedKey b s) (forced-fits b s) (layout-key-fits b ok vkey s n))
     (or-else KeyFits (forcedKey b s) (forced-fits b s) (undead-fits (plainKey b vkey s) (plain-key-fits b ok vkey s n)))
 
 pub held-fits :
-    (b : Keyboard) (vkey : ℕ) (l : KeyLParam) → KeyboardOk b → vkey < 65536 → l .scancode < 256 →
+    (b : Keyboard) (vkey : ℕ) (l : KeyLParam) → KeyboardOk b → vkey < WORD → l .scancode < 256 →
     heldFits (some (heldOf b vkey l)) ≡ true
 unfolding heldFits heldOf unitsFit
-held-fits b vkey l ok v h = rw (info-fits b vkey l ok h, lt-ltb vkey 65536 v)
+held-fits b vkey l ok v h = rw (info-fits b vkey l ok h, lt-ltb vkey WORD v)
 
 -- ---- what a value in range holds
 
 record InfoParts (n : Info) : Type 0 where
-  scan : n .scancode < 65536
+  scan : n .scancode < WORD
   logical : KeyFits (n .logicalKey)
   plain : KeyFits (n .keyWithoutModifiers)
 
 info-parts : (n : Info) → infoFits n ≡ true → InfoParts n
 unfolding infoFits
 info-parts n e =
-    let a = and-eq-true-iff (ltb (n .scancode) 65536) _ .0 e in
+    let a = and-eq-true-iff (ltb (n .scancode) WORD) _ .0 e in
     let b = and-eq-true-iff (fullKeyFits KEY-TEXT-MOST (n .logicalKey)) _ .0 (a .1) in
-    record { scan = ltb-true (n .scancode) 65536 (a .0); logical = b .0; plain = b .1 }
+    record { scan = ltb-true (n .scancode) WORD (a .0); logical = b .0; plain = b .1 }
 
 record HeldParts (h : Held) : Type 0 where
   info : infoFits (h .info) ≡ true
-  vkey : ltb (h .vkey) 65536 ≡ true
+  vkey : ltb (h .vkey) WORD ≡ true
   units : unitsFit (h .units) ≡ true
 
 held-parts : (h : Held) → heldFits (some h) ≡ true → HeldParts h
 unfolding heldFits
 held-parts h e =
     let a = and-eq-true-iff (infoFits (h .info)) _ .0 e in
-    let b = and-eq-true-iff (ltb (h .vkey) 65536) _ .0 (a .1) in record { info = a .0; vkey = b .0; units = b .1 }
+    let b = and-eq-true-iff (ltb (h .vkey) WORD) _ .0 (a .1) in record { info = a .0; vkey = b .0; units = b .1 }
 
 -- ---- units
 
 units-in : (us : List ℕ) → Units us → unitsFit us ≡ true
 unfolding unitsFit
 units-in [] h = refl
-units-in (u ∷ us) h = rw (lt-ltb u 65536 (h .0)) (units-in us (h .1))
+units-in (u ∷ us) h = rw (lt-ltb u WORD (h .0)) (units-in us (h .1))
 
 units-append : (us vs : List ℕ) → unitsFit us ≡ true → unitsFit vs ≡ true → unitsFit (us ++ vs) ≡ true
 unfolding unitsFit
 units-append [] vs a b = b
 units-append (u ∷ us) vs a b =
-    let p = and-eq-true-iff (ltb u 65536) (unitsFit us) .0 a in rw (p .0) (units-append us vs (p .1) b)
+    let p = and-eq-true-iff (ltb u WORD) (unitsFit us) .0 a in rw (p .0) (units-append us vs (p .1) b)
 
 pub units-fit :
     (h : Held) (w : ℕ) → heldFits (some h) ≡ true → heldFits (some (withUnits h (charUnits w))) ≡ true
@@ -178,7 +157,7 @@ unfolding eventFits
 event-in e a b c d f = rw (a, b, c, d, f)
 
 typed-key-fits :
-    (layout : FullKey) (scancode : ℕ) (o : Option (List ℕ)) → fullKeyFits TEXT-MOST layout ≡ true → scancode < 65536 →
+    (layout : FullKey) (scancode : ℕ) (o : Option (List ℕ)) → fullKeyFits TEXT-MOST layout ≡ true → scancode < WORD →
     optTextFits o ≡ true → fullKeyFits TEXT-MOST (typedKey layout scancode o) ≡ true
 unfolding typedKey optTextFits
 typed-key-fits layout scancode none l s e = unidentified-fits TEXT-MOST scancode s
@@ -238,7 +217,7 @@ focus-text-fits Pressed k e = to-text-fits k e
 focus-text-fits Released k e = no-text
 
 module _ (b : Keyboard) (st : ElementState) where
-  pub synthetic-fits : (vk scancode : ℕ) → KeyboardOk b → scancode < 65536 → eventFits (syntheticEvent b st vk scancode) ≡ true
+  pub synthetic-fits : (vk scancode : ℕ) → KeyboardOk b → scancode < WORD → eventFits (syntheticEvent b st vk scancode) ≡ true
   unfolding syntheticEvent focusKey
   synthetic-fits vk scancode ok h =
       let k : KeyFits (focusKey b vk scancode) = layout-fits b _ _ vk scancode ok h in
@@ -267,7 +246,7 @@ focus-fits b st ok = all-synthetic-fit b st (focusKeys st) ok
 
 -- Caps Lock, the six and the others
 keys-length : (st : ElementState) → length (focusKeys st) ≡ 253
-unfolding focusKeys modifierKeys othersFrom isOther lookup
+unfolding focusKeys modifierKeys othersFrom isOther assoc
 keys-length Pressed = refl
 keys-length Released = refl
 

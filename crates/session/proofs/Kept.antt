@@ -1,29 +1,28 @@
 -- What an answered call leaves keeps the limits, and each value that it stores or hands out is of its type's range.
 -- Assumes nothing.
-use mathlib.Core.Path.{_≡_, refl, ap, sym, _∙_, subst}
-use mathlib.Core.Bool.{Bool, true, false, _&&_}
+use mathlib.Core.Path.{_≡_, refl, ap, sym, _∙_}
+use mathlib.Core.Bool.{Bool, true, false}
 use mathlib.Core.List.{List, [], _∷_, _++_}
 use mathlib.Core.Option.{Option, some, none}
-use Prim.Native.Nat.{ℕ, zero, suc, _+_, _≤_, _<_}
+use Prim.Native.Nat.{ℕ, suc, _+_, _≤_, _<_}
 use native.Mathlib.Omega.{arith}
-use lib.Dec.{ltb, leb, eqb}
+use lib.Dec.{ltb, eqb}
 use lib.ListN.{length, length-append}
 use borrow.Author.Tests.{ltb-true, leb-true, lt-ltb}
-use Rattle.area.specs.Pick.{pick}
 use Rattle.text.specs.Message.{charUnits}
-use Rattle.keystroke.specs.LParam.{keyLParam, virtualKey}
-use Rattle.keystroke.specs.declared.KeyLParam.{KeyLParam}
-use Rattle.session.specs.Limits.{OPEN-MOST, ENTRIES-MOST, TOKENS-MOST, UNITS-MOST}
-use Rattle.session.specs.Given.{Message, Inputs, Given, brought, finished, inputsOf}
-use Rattle.session.specs.Event.{Event, Info, Held}
+use Rattle.lookup.specs.LParam.{keyLParam, virtualKey}
+use Rattle.lookup.specs.declared.keyboard.KeyLParam.{KeyLParam}
+use Rattle.lookup.proofs.keyboard_layout.Ranges.{vkey-small, scan-small}
+use Rattle.session.specs.Limits.{OPEN-MOST, ENTRIES-MOST, TOKENS-MOST, WORD}
+use Rattle.session.specs.Given.{Message, Given, brought, finished, inputsOf}
+use Rattle.session.specs.Event.{Event, Held}
 use Rattle.session.specs.Builder.{Keyboard, keyboardOf, fromMessage, heldOf, withUnits, pressEvent, deadCharEvent, charEvent, releaseEvent, fake}
 use Rattle.session.specs.Focus.{focusEvents}
-use Rattle.session.specs.Session.{Wait, press, release, character, Entry, waiting, complete, Session, tokenOf, openCount, unitsWithin, eventFits, allFit, infoFits, heldFits, waitFits, entryFits, entriesFit}
+use Rattle.session.specs.Session.{Wait, press, release, character, Entry, waiting, complete, Session, tokenOf, openCount, unitsWithin, eventFits, allFit, heldFits, waitFits, entryFits, entriesFit}
 use Rattle.session.specs.Calls.{Sort, keyDown, keyUp, char, deadChar, ignored, focus, sortOf, Effect, nothingDone, opening, numbered, behind, charOpened, deadCharAnswered, messageEffect, holds, moreComing, finishEvent, finishHeld, waitIn, findWait, inPlace, resolve, isFirst, drain, resolved, finishEffect, effectOf}
-use Rattle.session.specs.Questions.{isHeld, opens, behindSome, newEntries, unitsAfter, question5, question6, question7, question8, question9, question10, firstNo, messageQuestions, finishQuestions, sessionQuestions}
+use Rattle.session.specs.Questions.{opens, behindSome, newEntries, unitsAfter, question5, question6, question7, question8, question9, firstNo, messageQuestions, finishQuestions, sessionQuestions}
 use Rattle.session.proofs.Lists.{and-true, both, pick-ok}
-use Rattle.session.proofs.Laws.{effect-brought, effect-finished, press-effect, release-effect, char-effect, dead-effect, focus-effect, ignored-effect, finish-found, finish-lost, resolved-first, resolved-later, event-press, event-release, event-none, event-char, held-press, held-release, held-none, held-char, place-none, place-some}
-use Rattle.session.proofs.Fits.{KeyboardOk, info-fits, held-fits, units-fit, press-fits, dead-fits, char-fits, release-fits, focus-fits, focus-most, vkey-small, scan-small}
+use Rattle.session.proofs.Fits.{KeyboardOk, info-fits, held-fits, units-fit, press-fits, dead-fits, char-fits, release-fits, focus-fits, focus-most}
 
 -- ---- what a session keeps, and what a call may hand out
 
@@ -81,11 +80,11 @@ record Resolved (l r : List Entry) : Type 0 where
   stored : entriesFit r ≡ true
 
 placed : (t : ℕ) (o : Option Event) (x : Entry) (r : List Entry) → OptFits o → entriesFit r ≡ true → Resolved (x ∷ r) (inPlace t o r)
-unfolding openCount entriesFit entryFits
-placed t none (waiting u w) r f k = rw (place-none t r) (record { few = omega arith; fit = omega arith; stored = k })
-placed t none (complete u d) r f k = rw (place-none t r) (record { few = omega arith; fit = omega arith; stored = k })
-placed t (some e) (waiting u w) r f k = rw (place-some t e r) (record { few = omega arith; fit = omega arith; stored = both (eventFits e) (entriesFit r) f k })
-placed t (some e) (complete u d) r f k = rw (place-some t e r) (record { few = omega arith; fit = omega arith; stored = both (eventFits e) (entriesFit r) f k })
+unfolding inPlace openCount entriesFit entryFits
+placed t none (waiting u w) r f k = record { few = omega arith; fit = omega arith; stored = k }
+placed t none (complete u d) r f k = record { few = omega arith; fit = omega arith; stored = k }
+placed t (some e) (waiting u w) r f k = record { few = omega arith; fit = omega arith; stored = both (eventFits e) (entriesFit r) f k }
+placed t (some e) (complete u d) r f k = record { few = omega arith; fit = omega arith; stored = both (eventFits e) (entriesFit r) f k }
 
 passed-by : (x : Entry) (l r : List Entry) → entryFits x ≡ true → Resolved l r → Resolved (x ∷ l) (x ∷ r)
 unfolding openCount entriesFit
@@ -217,34 +216,31 @@ dead-leaves t l (some h) b m k q =
     (both (eventFits (deadCharEvent h)) true (dead-fits h (k .press-in) (leb-true _ _ (k .short))) refl) refl refl
 
 message-leaves : (k : Sort) (s : Session) (b : Keyboard) (m : Message) → KeyboardOk b → Keeps s → Passes s b m k → Leaves (messageEffect s b m k)
-unfolding question6 question7 question8 opens newEntries waitFits
+unfolding messageEffect question6 question7 question8 opens newEntries waitFits
 message-leaves keyDown s b m o k q =
-    rw press-effect
-    (opening-leaves s (press (virtualKey (m .wparam)) (keyLParam (m .lparam))) (s .held) k (ltb-true _ _ (q .q6)) (leb-true _ _ (q .q7)) (leb-true _ _ (q .q8))
-    (both (ltb (virtualKey (m .wparam)) 65536) (ltb (keyLParam (m .lparam) .scancode) 256) (lt-ltb _ _ (vkey-small (m .wparam))) (lt-ltb _ _ (scan-small (m .lparam)))) (k .short) (k .press-in))
+    opening-leaves s (press (virtualKey (m .wparam)) (keyLParam (m .lparam))) (s .held) k (ltb-true _ _ (q .q6)) (leb-true _ _ (q .q7)) (leb-true _ _ (q .q8))
+    (both (ltb (virtualKey (m .wparam)) WORD) (ltb (keyLParam (m .lparam) .scancode) 256) (lt-ltb _ _ (vkey-small (m .wparam))) (lt-ltb _ _ (scan-small (m .lparam)))) (k .short) (k .press-in)
 message-leaves keyUp s b m o k q =
-    rw release-effect
-    (opening-leaves s (release (fromMessage b (virtualKey (m .wparam)) (keyLParam (m .lparam)))) (s .held) k (ltb-true _ _ (q .q6)) (leb-true _ _ (q .q7)) (leb-true _ _ (q .q8))
-    (info-fits b (virtualKey (m .wparam)) (keyLParam (m .lparam)) o (scan-small (m .lparam))) (k .short) (k .press-in))
-message-leaves char s b m o k q = rw char-effect (char-leaves (s .handed) (s .entries) (s .held) b m k q)
-message-leaves deadChar s b m o k q = rw dead-effect (dead-leaves (s .handed) (s .entries) (s .held) b m k q)
+    opening-leaves s (release (fromMessage b (virtualKey (m .wparam)) (keyLParam (m .lparam)))) (s .held) k (ltb-true _ _ (q .q6)) (leb-true _ _ (q .q7)) (leb-true _ _ (q .q8))
+    (info-fits b (virtualKey (m .wparam)) (keyLParam (m .lparam)) o (scan-small (m .lparam))) (k .short) (k .press-in)
+message-leaves char s b m o k q = char-leaves (s .handed) (s .entries) (s .held) b m k q
+message-leaves deadChar s b m o k q = dead-leaves (s .handed) (s .entries) (s .held) b m k q
 message-leaves (focus st) s b m o k q =
-    rw focus-effect
-    (behind-leaves s (focusEvents b st) (s .held) (s .entries) refl k (leb-true _ _ (q .q7)) (leb-true _ _ (q .q8)) (focus-most b st) (focus-fits b st o) (k .short) (k .press-in))
-message-leaves ignored s b m o k q = rw ignored-effect (nothing-leaves s k)
+    behind-leaves s (focusEvents b st) (s .held) (s .entries) refl k (leb-true _ _ (q .q7)) (leb-true _ _ (q .q8)) (focus-most b st) (focus-fits b st o) (k .short) (k .press-in)
+message-leaves ignored s b m o k q = nothing-leaves s k
 
 -- ---- a finish
 
 event-fits : (b : Keyboard) (p : Option Held) (w : Wait) (pk : Option Message) → KeyboardOk b → unitsWithin p ≡ true → heldFits p ≡ true → waitFits w ≡ true → OptFits (finishEvent b p w pk)
-unfolding waitFits unitsWithin
+unfolding finishEvent waitFits unitsWithin
 event-fits b p (press vkey l) pk o u f g =
-    let r = and-true (ltb vkey 65536) (ltb (l .scancode) 256) g in
-    rw event-press
-    (pick-ok OptFits (holds pk) none _ tt
-    (pick-ok OptFits (fake b (fromMessage b vkey l) pk) none (some (pressEvent (heldOf b vkey l))) tt (press-fits (heldOf b vkey l) (held-fits b vkey l o (ltb-true _ _ (r .0)) (ltb-true _ _ (r .1))))))
-event-fits b p (release n) pk o u f g = rw event-release (pick-ok OptFits (fake b n pk) none (some (releaseEvent n)) tt (release-fits n g))
-event-fits b none character pk o u f g = rw event-none tt
-event-fits b (some h) character pk o u f g = rw event-char (pick-ok OptFits (moreComing pk) none (some (charEvent b h)) tt (char-fits b h o f (leb-true _ _ u)))
+    let r = and-true (ltb vkey WORD) (ltb (l .scancode) 256) g in
+    let made = held-fits b vkey l o (ltb-true _ _ (r .0)) (ltb-true _ _ (r .1)) in
+    pick-ok OptFits (holds pk) none _ tt
+    (pick-ok OptFits (fake b (fromMessage b vkey l) pk) none (some (pressEvent (heldOf b vkey l))) tt (press-fits (heldOf b vkey l) made))
+event-fits b p (release n) pk o u f g = pick-ok OptFits (fake b n pk) none (some (releaseEvent n)) tt (release-fits n g)
+event-fits b none character pk o u f g = tt
+event-fits b (some h) character pk o u f g = pick-ok OptFits (moreComing pk) none (some (charEvent b h)) tt (char-fits b h o f (leb-true _ _ u))
 
 nothing-held : (unitsWithin none ≡ true) × (heldFits none ≡ true)
 unfolding unitsWithin heldFits
@@ -258,39 +254,40 @@ unfolding unitsWithin heldOf
 new-held b vkey l = refl
 
 held-kept : (b : Keyboard) (p : Option Held) (w : Wait) (pk : Option Message) → KeyboardOk b → HeldKept p → waitFits w ≡ true → HeldKept (finishHeld b p w pk)
-unfolding waitFits
+unfolding finishHeld waitFits
 held-kept b p (press vkey l) pk o u g =
-    let r = and-true (ltb vkey 65536) (ltb (l .scancode) 256) g in
-    rw held-press (pick-ok HeldKept (holds pk) (some (heldOf b vkey l)) none (new-held b vkey l, held-fits b vkey l o (ltb-true _ _ (r .0)) (ltb-true _ _ (r .1))) nothing-held)
-held-kept b p (release n) pk o u g = rw held-release u
-held-kept b none character pk o u g = rw held-none nothing-held
-held-kept b (some h) character pk o u g = rw held-char (pick-ok HeldKept (moreComing pk) (some h) none u nothing-held)
+    let r = and-true (ltb vkey WORD) (ltb (l .scancode) 256) g in
+    pick-ok HeldKept (holds pk) (some (heldOf b vkey l)) none (new-held b vkey l, held-fits b vkey l o (ltb-true _ _ (r .0)) (ltb-true _ _ (r .1))) nothing-held
+held-kept b p (release n) pk o u g = u
+held-kept b none character pk o u g = nothing-held
+held-kept b (some h) character pk o u g = pick-ok HeldKept (moreComing pk) (some h) none u nothing-held
 
 resolved-leaves : (b : Bool) (s : Session) (t : ℕ) (e : Option Event) (h : Option Held) → Keeps s → OptFits e → HeldKept h → Leaves (resolved b s t e h)
-unfolding openCount allFit
+unfolding resolved openCount allFit
 resolved-leaves true s t e h k f u =
     let r = resolve-keeps t e (s .entries) f (k .stored) in
     let d = drain-keeps (resolve t e (s .entries)) (r .stored) in
-    rw resolved-first (record { after = record { few = omega arith; fit = omega arith; tokens = omega arith; short = u .0; stored = none-fit; press-in = u .1 }; most = omega (arith, d .0, r .fit, k .fit); fits = d .1 })
+    record { after = record { few = omega arith; fit = omega arith; tokens = omega arith; short = u .0; stored = none-fit; press-in = u .1 }; most = omega (arith, d .0, r .fit, k .fit); fits = d .1 }
 resolved-leaves false s t e h k f u =
     let r = resolve-keeps t e (s .entries) f (k .stored) in
-    rw resolved-later (record {
+    record {
       after = record { few = omega (arith, r .few, k .few); fit = omega (arith, r .fit, k .fit); tokens = k .tokens; short = u .0; stored = r .stored; press-in = u .1 };
       most = omega arith;
       fits = refl;
-    })
+    }
 
 found-leaves : (s : Session) (b : Keyboard) (t : ℕ) (pk : Option Message) (o : Option Wait) → KeyboardOk b → Keeps s → WaitIn o → Leaves (finishEffect s b t pk o)
-found-leaves s b t pk none k q f = rw finish-lost (nothing-leaves s q)
+unfolding finishEffect
+found-leaves s b t pk none k q f = nothing-leaves s q
 found-leaves s b t pk (some w) k q f =
-    rw finish-found (resolved-leaves (isFirst t (s .entries)) s t (finishEvent b (s .held) w pk) (finishHeld b (s .held) w pk) q
-    (event-fits b (s .held) w pk k (q .short) (q .press-in) f) (held-kept b (s .held) w pk k (q .short, q .press-in) f))
+    resolved-leaves (isFirst t (s .entries)) s t (finishEvent b (s .held) w pk) (finishHeld b (s .held) w pk) q
+    (event-fits b (s .held) w pk k (q .short) (q .press-in) f) (held-kept b (s .held) w pk k (q .short, q .press-in) f)
 
 -- ---- any call that passed its questions
 
 pub call-leaves : (s : Session) (g : Given) → KeyboardOk (keyboardOf (inputsOf g)) → Keeps s → firstNo (sessionQuestions s g) ≡ none → Leaves (effectOf s g)
-unfolding sessionQuestions messageQuestions finishQuestions
+unfolding effectOf sessionQuestions messageQuestions finishQuestions
 call-leaves s (brought i m) o k e =
     let q = passes (question5 s (sortOf m)) (question6 s (sortOf m)) (question7 s (keyboardOf i) (sortOf m)) (question8 s (keyboardOf i) (sortOf m)) (question9 s m (sortOf m)) e in
-    rw effect-brought (message-leaves (sortOf m) s (keyboardOf i) m o k (record { q6 = q .0; q7 = q .1; q8 = q .2; q9 = q .3 }))
-call-leaves s (finished i t pk) o k e = rw effect-finished (found-leaves s (keyboardOf i) t pk (findWait t (s .entries)) o k (find-fits t (s .entries) (k .stored)))
+    message-leaves (sortOf m) s (keyboardOf i) m o k (record { q6 = q .0; q7 = q .1; q8 = q .2; q9 = q .3 })
+call-leaves s (finished i t pk) o k e = found-leaves s (keyboardOf i) t pk (findWait t (s .entries)) o k (find-fits t (s .entries) (k .stored))

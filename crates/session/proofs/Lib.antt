@@ -12,4 +12,6 @@ pub mod Kept
 pub mod Runs
 pub mod Rising
 pub mod Demand3
+pub mod Premises
+pub mod Refuted
 pub mod Corollaries

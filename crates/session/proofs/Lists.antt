@@ -1,11 +1,8 @@
 -- Laws about lists, options and tests that the proofs about runs share.
 -- Assumes nothing.
-use mathlib.Core.Path.{_≡_, refl, ap, sym, _∙_, subst}
+use mathlib.Core.Path.{_≡_, refl}
 use mathlib.Core.Bool.{Bool, true, false, _&&_}
 use mathlib.Core.List.{List, [], _∷_, _++_}
-use mathlib.Core.Option.{Option, some, none}
-use Prim.Native.Nat.{ℕ}
-use native.Mathlib.Omega.{arith}
 use Rattle.area.specs.Pick.{pick}
 
 abbrev pub All : {A : Type 0} → (A → Type 0) → List A → Type 0

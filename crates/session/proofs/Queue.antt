@@ -1,24 +1,22 @@
 -- Everything that ever arrived, as a stack cut at the open messages: the whole state of a run is a function of it.
 -- Assumes nothing.
-use mathlib.Core.Path.{_≡_, refl, ap, sym, _∙_, subst}
-use mathlib.Core.Bool.{Bool, true, false, _&&_}
-use mathlib.Core.List.{List, [], _∷_, _++_, append-assoc, append-nil, map, map-append}
+use mathlib.Core.Path.{_≡_, refl, ap, sym, _∙_}
+use mathlib.Core.Bool.{true, false}
+use mathlib.Core.List.{List, [], _∷_, _++_, append-assoc, append-nil, map}
 use mathlib.Core.Option.{Option, some, none}
-use Prim.Native.Nat.{ℕ, zero, suc, _+_, _≤_, _<_}
+use Prim.Native.Nat.{ℕ, suc, _+_, _≤_, _<_}
 use native.Mathlib.Omega.{arith}
-use lib.Dec.{ltb, leb, eqb}
-use lib.ListN.{length, length-append}
+use lib.ListN.{length}
 use borrow.Author.Tests.{lt-ltb, le-leb, lt-leb, eq-eqb, ne-eqb}
 use Rattle.area.specs.Pick.{pick}
-use Rattle.keystroke.specs.LParam.{keyLParam, virtualKey}
-use Rattle.session.specs.Given.{Message, Inputs, Given, brought, finished}
-use Rattle.session.specs.Event.{Event, Info, Held}
+use Rattle.lookup.specs.LParam.{keyLParam, virtualKey}
+use Rattle.session.specs.Given.{Message, Inputs}
+use Rattle.session.specs.Event.{Event, Held}
 use Rattle.session.specs.Session.{Wait, press, release, character, Entry, waiting, complete, Session, tokenOf, rising, firstOpen}
-use Rattle.session.specs.Calls.{Effect, opening, numbered, behind, findWait, inPlace, resolve, isFirst, drain}
+use Rattle.session.specs.Calls.{numbered, behind, findWait, inPlace, resolve, isFirst, drain}
 use Rattle.session.specs.Questions.{lastToken}
-use Rattle.session.specs.Book.{Arrival, Press, Note, Book, pressKind, releaseKind, infoOf, noteIn, noteAll, heldPress}
+use Rattle.session.specs.Book.{Arrival, Note, pressKind, releaseKind, infoOf, noteIn, noteAll}
 use Rattle.session.proofs.Lists.{All, all-map, all-append}
-use Rattle.session.proofs.Laws.{place-none, place-some, first-is}
 
 -- ---- the stack
 
@@ -165,11 +163,13 @@ resolve-at [] B t w o a = rw (eq-eqb t t refl)
 resolve-at (x ∷ A) B t w o a = rw (ne-eqb t (tokenOf x) (λ e. omega arith)) (ap (λ r. x ∷ r) (resolve-at A B t w o (a .1)))
 
 pub not-first : (A B C : List Entry) (x : Entry) (t : ℕ) → All (λ x. tokenOf x < t) (A ++ (x ∷ B)) → isFirst t ((A ++ (x ∷ B)) ++ C) ≡ false
-not-first [] B C x t a = first-is t x (B ++ C) ∙ ne-eqb t (tokenOf x) (λ e. omega arith)
-not-first (y ∷ A) B C x t a = first-is t y ((A ++ (x ∷ B)) ++ C) ∙ ne-eqb t (tokenOf y) (λ e. omega arith)
+unfolding isFirst
+not-first [] B C x t a = ne-eqb t (tokenOf x) (λ e. omega arith)
+not-first (y ∷ A) B C x t a = ne-eqb t (tokenOf y) (λ e. omega arith)
 
 pub is-first : (t : ℕ) (w : Wait) (B : List Entry) → isFirst t (waiting t w ∷ B) ≡ true
-is-first t w B = first-is t (waiting t w) B ∙ eq-eqb t t refl
+unfolding isFirst
+is-first t w B = eq-eqb t t refl
 
 pub behind-at :
     (s : Session) (es : List Event) (h : Option Held) (A B : List Entry) (x : Entry) →
@@ -244,9 +244,9 @@ kept t n none D = D
 kept t n (some e) D = record { token = t; number = n; event = e } ∷ D
 
 pub entries-kept : (t n : ℕ) (o : Option Event) (D : List Done) → inPlace t o (map entryOf D) ≡ map entryOf (kept t n o D)
-unfolding kept
-entries-kept t n none D = place-none t (map entryOf D)
-entries-kept t n (some e) D = place-some t e (map entryOf D)
+unfolding kept inPlace
+entries-kept t n none D = refl
+entries-kept t n (some e) D = refl
 
 -- what the book does with an event that may be none
 unfoldable pub noteOpt : ℕ → Option Event → List Note → List Note

@@ -19,7 +19,6 @@ use Rattle.session.specs.Run.{Call, State, start, joined, next, run}
 use Rattle.session.specs.Demand3.{Rising}
 use Rattle.session.specs.declared.ElementState.the-variants.{Pressed, Released}
 use Rattle.session.proofs.Lists.{pick-ok}
-use Rattle.session.proofs.Laws.{release-booked}
 
 abbrev Ordered : Book → Type 0
 Ordered b = Rising 0 (b .noted)
@@ -74,13 +73,13 @@ char-finished false none b os n i r = r
 char-finished false (some h) b os n i r = note-rises 0 _ _ (b .noted) zero-le r
 
 finish-noted : (b : Book) (i : Inputs) (p : Option Message) (l : List Arrival) → Ordered b → Ordered (bookFinish b i p l)
-unfolding bookFinish finishPress
+unfolding bookFinish finishPress finishRelease
 finish-noted b i p [] r = r
 finish-noted b i p (a ∷ os) r =
     pick-ok Ordered (pressKind (a .message .kind)) (finishPress b os a i p) _
     (pick-ok Ordered (makesHeld p) _ _ r (unless-rises (fake (keyboardOf i) (infoOf i (a .message)) p) (a .number) (pressEvent (pressOf i (a .message))) (b .noted) r))
     (pick-ok Ordered (releaseKind (a .message .kind)) (finishRelease b os a i p) _
-    (rw (release-booked b os a i p) (unless-rises (fake (keyboardOf i) (infoOf (a .inputs) (a .message)) p) (a .number) (releaseEvent (infoOf (a .inputs) (a .message))) (b .noted) r))
+    (unless-rises (fake (keyboardOf i) (infoOf (a .inputs) (a .message)) p) (a .number) (releaseEvent (infoOf (a .inputs) (a .message))) (b .noted) r)
     (char-finished (moreToCome p) (b .held) b os (a .number) i r))
 
 step-noted : (x : Bool) (b : Book) (g : Given) → Ordered b → Ordered (bookStep x b g)

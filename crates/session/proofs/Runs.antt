@@ -1,36 +1,31 @@
 -- Runs on areas are runs on paper: each call finds the area of a session, so none gets 4, and hands out what the paper says.
 -- Assumes nothing.
 use mathlib.Core.Path.{_≡_, refl, ap, sym, _∙_, subst}
-use mathlib.Core.Bool.{Bool, true, false, _&&_}
-use mathlib.Core.List.{List, [], _∷_, _++_, append-assoc, append-nil, map}
+use mathlib.Core.Bool.{Bool, true, false}
+use mathlib.Core.List.{List, [], _∷_, _++_, append-assoc, append-nil}
 use mathlib.Core.Option.{Option, some, none}
-use Prim.Native.Nat.{ℕ, zero, suc, _+_, _≤_, _<_}
+use Prim.Native.Nat.{ℕ, _+_, _<_}
 use native.Mathlib.Omega.{arith}
-use lib.Dec.{leb, eqb}
-use lib.ListN.{length}
-use borrow.Author.Tests.{le-leb, eq-eqb}
+use borrow.Author.Tests.{le-leb}
 use Rattle.area.specs.Pick.{pick}
 use Rattle.area.specs.Bytes.{Bytes}
-use Rattle.block.specs.Block.{blockOk}
-use Rattle.session.specs.Limits.{AREA, KEYS, OPEN-MOST, ENTRIES-MOST, TOKENS-MOST}
-use Rattle.session.specs.Given.{Message, Inputs, Given, brought, finished, inputsOf}
-use Rattle.session.specs.Event.{Event, Held}
+use Rattle.session.specs.Limits.{OPEN-MOST, ENTRIES-MOST, TOKENS-MOST}
+use Rattle.session.specs.Given.{Given, brought, finished, inputsOf}
 use Rattle.session.specs.Builder.{keyboardOf}
-use Rattle.session.specs.Session.{Session, freshSession, rising, firstOpen, openCount, unitsWithin, inOrder, entriesFit, heldFits, isSession}
-use Rattle.session.specs.Area.{encode, decode, sessionOk, encodeAnswer, decodeAnswer}
+use Rattle.session.specs.Session.{Session, freshSession, openCount, unitsWithin, inOrder, entriesFit, heldFits, isSession}
+use Rattle.session.specs.Area.{encode, encodeAnswer}
 use Rattle.session.specs.Calls.{Effect, effectOf}
-use Rattle.session.specs.Questions.{question1, question2, question3, question5, question6, question7, question8, question9, question10, firstNo, messageQuestions, finishQuestions, sessionQuestions}
-use Rattle.session.specs.Answers.{Outcome, refused, answered, questions, outcomeBy, outcomeOf, freshArea}
-use Rattle.session.specs.Book.{Book, Press, Note, emptyBook, bookStep}
-use Rattle.session.specs.Run.{Call, State, start, joined, next, run, GivenInRange, InRange}
+use Rattle.session.specs.Questions.{question1, question2, question3, firstNo, messageQuestions, finishQuestions, sessionQuestions}
+use Rattle.session.specs.Answers.{Outcome, refused, answered, questions, outcomeBy, outcomeOf}
+use Rattle.session.specs.Book.{Press, emptyBook, bookStep}
+use Rattle.session.specs.Run.{Call, State, start, joined, next, run, CallsInRange}
 use Rattle.session.specs.Demand3.{NoFour}
-use Rattle.session.proofs.Lists.{All, both}
+use Rattle.session.proofs.Lists.{All}
 use Rattle.session.proofs.Queue.{Stack, base, handedOf, flat, Wf, flat-rises, handed-wf, rising-true, first-true}
 use Rattle.session.proofs.Fits.{KeyboardOk, keyboard-ok}
 use Rattle.session.proofs.Area.{session-back, answer-back, fresh-area}
-use Rattle.session.proofs.Laws.{book-refused}
 use Rattle.session.proofs.Steps.{Paper, done, view, Good, call-good}
-use Rattle.session.proofs.Kept.{Keeps, Leaves, call-leaves}
+use Rattle.session.proofs.Kept.{Keeps, call-leaves}
 
 -- ---- what a run comes through
 
@@ -95,10 +90,9 @@ passed true false c qs e = (cc, cc)
 passed true true false qs e = (cc, cc)
 passed true true true qs e = (refl, e)
 
-inputs-ok : (g : Given) → GivenInRange g → question3 g ≡ true → KeyboardOk (keyboardOf (inputsOf g))
+inputs-ok : (g : Given) → Bytes (inputsOf g .block) → question3 g ≡ true → KeyboardOk (keyboardOf (inputsOf g))
 unfolding question3
-inputs-ok (brought i m) r e = keyboard-ok i (r .0 .1) e
-inputs-ok (finished i t p) r e = keyboard-ok i (r .0 .1) e
+inputs-ok g bytes e = keyboard-ok (inputsOf g) bytes e
 
 -- ---- one call
 
@@ -139,10 +133,10 @@ answered-next q os g f i e =
 
 -- "A refused call .. change[s] nothing", but for the list of outcomes
 refused-next : (q : Paper) (os : List Outcome) (g : Given) (n : ℕ) → joined (areaOf q os) g (outcomeBy (some n) (q .session) g) ≡ areaOf q (os ++ (refused n ∷ []))
-unfolding joined outcomeBy
-refused-next q os g n = rw book-refused refl
+unfolding joined outcomeBy bookStep
+refused-next q os g n = refl
 
-pub next-fine : (q : Paper) (os : List Outcome) (c : Call) → Fine q → GivenInRange (c .given) → Next q os c
+pub next-fine : (q : Paper) (os : List Outcome) (c : Call) → Fine q → Bytes (inputsOf (c .given) .block) → Next q os c
 next-fine q os c f r = go (firstNo (asked q c)) refl
   where
     go : (o : Option ℕ) → firstNo (asked q c) ≡ o → Next q os c
@@ -179,12 +173,12 @@ four-append [] b x y = y
 four-append (refused n ∷ a) b x y = (x .0, four-append a b (x .1) y)
 four-append (answered t u v ∷ a) b x y = four-append a b x y
 
-pub run-fine : (cs : List Call) (q : Paper) (os : List Outcome) → Fine q → InRange cs → Ran q os cs
+pub run-fine : (cs : List Call) (q : Paper) (os : List Outcome) → Fine q → CallsInRange cs → Ran q os cs
 unfolding run
 run-fine [] q os f r = record { paper = q; outcomes = []; fine = f; same = rw append-nil refl; no-four = tt }
 run-fine (c ∷ cs) q os f r =
     let n = next-fine q os c f (r .0) in
-    let m = run-fine cs (n .paper) (os ++ (n .outcome ∷ [])) (n .fine) (r .2) in
+    let m = run-fine cs (n .paper) (os ++ (n .outcome ∷ [])) (n .fine) (r .1) in
     record {
       paper = m .paper;
       outcomes = n .outcome ∷ m .outcomes;

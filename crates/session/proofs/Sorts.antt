@@ -1,20 +1,18 @@
 -- The calls and the book sort messages by tests of their own: the two agree.
 -- Assumes nothing.
-use mathlib.Core.Path.{_≡_, refl, ap, sym, _∙_, subst}
-use mathlib.Core.Bool.{Bool, true, false, not, _&&_, _||_}
-use mathlib.Core.List.{List, [], _∷_}
+use mathlib.Core.Path.{_≡_, refl, sym, subst}
+use mathlib.Core.Bool.{Bool, true, false, not, _||_}
 use mathlib.Core.Option.{Option, some, none}
 use Prim.Native.Nat.{ℕ}
 use lib.Dec.{eqb}
 use borrow.Author.Tests.{eqb-true}
 use Rattle.area.specs.Pick.{pick}
-use Rattle.area.specs.Look.{lookup}
+use Rattle.area.specs.Look.{assoc}
 use Rattle.session.specs.Given.{Message, Inputs}
 use Rattle.session.specs.Builder.{keyboardOf}
 use Rattle.session.specs.Focus.{focusEvents}
 use Rattle.session.specs.Calls.{Sort, keyDown, keyUp, char, deadChar, ignored, focus, sortOf, holds, moreComing}
-use Rattle.session.specs.Book.{Book, pressKind, releaseKind, characterKind, deadCharacterKind, closesWindow, bookOpen, bookCharacter, bookDeadCharacter, bookFocus, bookMessage, makesHeld, moreToCome}
-use Rattle.session.specs.declared.ElementState.the-variants.{Pressed, Released}
+use Rattle.session.specs.Book.{Book, pressKind, releaseKind, bookOpen, bookCharacter, bookDeadCharacter, bookFocus, bookMessage, makesHeld, moreToCome}
 
 -- what the book does with a message that the calls sort so
 unfoldable pub bookBy : Sort → Book → Inputs → Message → Book
@@ -55,7 +53,7 @@ module _ (b : Book) (i : Inputs) (w l : ℕ) where
   system false = (refl, refl)
 
   agrees : (k : ℕ) → Agrees k
-  unfolding bookMessage sortOf lookup bookBy Called
+  unfolding bookMessage sortOf assoc bookBy Called
   agrees k =
       tested Agrees 0x100 k (refl, refl) (λ e0.
       tested Agrees 0x104 k (system (eqb w 0x73)) (λ e4.
@@ -85,7 +83,7 @@ none-of false false false true = refl
 none-of false false false false = refl
 
 pub held-alike : (p : Option Message) → holds p ≡ makesHeld p
-unfolding holds makesHeld lookup
+unfolding holds makesHeld assoc
 held-alike none = refl
 held-alike (some m) = none-of (eqb (m .kind) 0x100) (eqb (m .kind) 0x101) (eqb (m .kind) 0x104) (eqb (m .kind) 0x105)
 
@@ -95,6 +93,6 @@ either-of false true = refl
 either-of false false = refl
 
 pub more-alike : (p : Option Message) → moreComing p ≡ moreToCome p
-unfolding moreComing moreToCome lookup
+unfolding moreComing moreToCome assoc
 more-alike none = refl
 more-alike (some m) = either-of (eqb (m .kind) 0x102) (eqb (m .kind) 0x106)

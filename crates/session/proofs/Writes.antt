@@ -15,7 +15,7 @@ use Rattle.area.specs.Zero.{zeroFrom}
 use Rattle.area.proofs.Bytes.{length-le}
 use Rattle.area.proofs.Splice.{splice-eq, chain, length-splice, part-length}
 use Rattle.area.proofs.Zero.{zero-fill}
-use Rattle.session.specs.Limits.{AREA, ENTRIES-MOST}
+use Rattle.session.specs.Limits.{AREA, ENTRIES-MOST, COUNT-AT, ENTRIES-AT, ENTRY-SIZE, HELD-FIELD-SIZE, ANSWER-EVENT-SIZE}
 use Rattle.session.specs.Codec.{Codec, number, pair, via, slot, putMany, listOf}
 use Rattle.session.specs.Event.{Event, Held}
 use Rattle.session.specs.Session.{Entry, Session, allFit, isSession}
@@ -73,7 +73,7 @@ slot-list {X} x w k n m p s q l g h f =
 
 -- where entry i stands
 abbrev pub placeOf : ℕ → ℕ
-placeOf i = 109 + 199 * i
+placeOf i = ENTRIES-AT + ENTRY-SIZE * i
 
 -- the area by its parts: tokens handed out, the held press, the number of entries, and what stands behind
 abbrev parts : ℕ → Option Held → ℕ → List ℕ → List ℕ
@@ -95,16 +95,16 @@ encode-list :
 unfolding encode session slot via pair number
 encode-list s = refl
 
-held-length : (o : Option Held) → OptHeldFits o → length (heldField .put o) ≡ 105
+held-length : (o : Option Held) → OptHeldFits o → length (heldField .put o) ≡ HELD-FIELD-SIZE
 held-length o f = opt-held-sound .sized o f ∙ held-field-width
 
-head-length : (h : ℕ) (o : Option Held) → OptHeldFits o → length (le 2 h ++ heldField .put o) ≡ 107
+head-length : (h : ℕ) (o : Option Held) → OptHeldFits o → length (le 2 h ++ heldField .put o) ≡ COUNT-AT
 head-length h o f = length-append (le 2 h) (heldField .put o) ∙ omega (arith, length-le 2 h, held-length o f)
 
-entry-length : (e : Entry) → EntryFits e → length (entry .put e) ≡ 199
+entry-length : (e : Entry) → EntryFits e → length (entry .put e) ≡ ENTRY-SIZE
 entry-length e f = entry-sound .sized e f ∙ entry-width
 
-entries-length : (es : List Entry) → All EntryFits es → length (putMany entry es) ≡ 199 * length es
+entries-length : (es : List Entry) → All EntryFits es → length (putMany entry es) ≡ ENTRY-SIZE * length es
 entries-length es f = many-sized entry entry-sound es f ∙ rw entry-width (omega arith)
 
 pub encode-as :
@@ -115,10 +115,10 @@ encode-as s f =
     let o = heldField .put (s .held) in
     let es = s .entries in
     let l = head-length (s .handed) (s .held) (f .0) in
-    let e : AREA - (107 + (2 + length es * entry .width)) ≡ AREA - placeOf (length es) = rw entry-width (omega arith) in
+    let e : AREA - (COUNT-AT + (2 + length es * entry .width)) ≡ AREA - placeOf (length es) = rw entry-width (omega arith) in
     encode-list s
     ∙ ap (λ (t : List ℕ). padded AREA t) (sym (append-assoc h o (listOf 2 ENTRIES-MOST entry .put es)))
-    ∙ slot-list entry-sound AREA 2 ENTRIES-MOST 107 (h ++ o) es (omega arith) l (omega (arith, entry-width)) (f .1 .0) (f .1 .1)
+    ∙ slot-list entry-sound AREA 2 ENTRIES-MOST COUNT-AT (h ++ o) es (omega arith) l (omega (arith, entry-width)) (f .1 .0) (f .1 .1)
     ∙ append-assoc h o _
     ∙ ap (λ (k : ℕ). parts (s .handed) (s .held) (length es) (putMany entry es ++ replicate k 0)) e
 
@@ -176,13 +176,13 @@ places-at A x B = rw (length-append A (x ∷ B), many-append entry A (x ∷ B), 
 -- the number of entries written
 count-put :
     (s : Session) (n : ℕ) (es : List Entry) → Stored (record { handed = s .handed; held = s .held; entries = es }) →
-    splice 107 (le 2 (length es)) (parts (s .handed) (s .held) n (places es)) ≡ encode (record { handed = s .handed; held = s .held; entries = es })
+    splice COUNT-AT (le 2 (length es)) (parts (s .handed) (s .held) n (places es)) ≡ encode (record { handed = s .handed; held = s .held; entries = es })
 count-put s n es f =
     let h = le 2 (s .handed) in
     let o = heldField .put (s .held) in
     let m = length es in
     let l = head-length (s .handed) (s .held) (f .0) in
-    over 107 (h ++ o) (le 2 n) (le 2 m) (places es) (sym (append-assoc h o (le 2 n ++ places es))) l (length-le 2 m ∙ sym (length-le 2 n))
+    over COUNT-AT (h ++ o) (le 2 n) (le 2 m) (places es) (sym (append-assoc h o (le 2 n ++ places es))) l (length-le 2 m ∙ sym (length-le 2 n))
     ∙ append-assoc h o (le 2 m ++ places es)
     ∙ sym (encode-as (record { handed = s .handed; held = s .held; entries = es }) f)
 
@@ -206,17 +206,17 @@ put-stored s f e g h =
 
 pub entry-put :
     (s : Session) → Stored s → (e : Entry) → EntryFits e → length (s .entries) < ENTRIES-MOST →
-    splice 107 (le 2 (length (s .entries) + 1)) (splice (placeOf (length (s .entries))) (entry .put e) (encode s)) ≡ encode (record { handed = s .handed; held = s .held; entries = s .entries ++ (e ∷ []) })
+    splice COUNT-AT (le 2 (length (s .entries) + 1)) (splice (placeOf (length (s .entries))) (entry .put e) (encode s)) ≡ encode (record { handed = s .handed; held = s .held; entries = s .entries ++ (e ∷ []) })
 unfolding putMany
 entry-put s f e g h =
     let A = s .entries in
     let n = length A in
     let z = AREA - placeOf (n + 1) in
-    let k : AREA - placeOf n ≡ 199 + z = omega arith in
-    let p : places A ≡ putMany entry A ++ (replicate 199 0 ++ replicate z 0) =
-    rw (k, replicate-append-replicate {A = ℕ} 199 z 0) in
-    let l : length (entry .put e) ≡ length (replicate {A = ℕ} 199 0) = entry-length e g ∙ sym (length-replicate {A = ℕ} 199 0) in
-    rw (place-put s f A (A ++ (e ∷ [])) (replicate 199 0) (entry .put e) (replicate z 0) (f .1 .1) l p (places-at A e []), ← length-append A (e ∷ []))
+    let k : AREA - placeOf n ≡ ENTRY-SIZE + z = omega arith in
+    let p : places A ≡ putMany entry A ++ (replicate ENTRY-SIZE 0 ++ replicate z 0) =
+    rw (k, replicate-append-replicate {A = ℕ} ENTRY-SIZE z 0) in
+    let l : length (entry .put e) ≡ length (replicate {A = ℕ} ENTRY-SIZE 0) = entry-length e g ∙ sym (length-replicate {A = ℕ} ENTRY-SIZE 0) in
+    rw (place-put s f A (A ++ (e ∷ [])) (replicate ENTRY-SIZE 0) (entry .put e) (replicate z 0) (f .1 .1) l p (places-at A e []), ← length-append A (e ∷ []))
     (count-put s n (A ++ (e ∷ [])) (put-stored s f e g h))
 
 module _ (s : Session) (f : Stored s) (A : List Entry) (x : Entry) (B : List Entry) (q : s .entries ≡ A ++ (x ∷ B)) where
@@ -247,7 +247,7 @@ module _ (s : Session) (f : Stored s) (A : List Entry) (x : Entry) (B : List Ent
       (f .0, (omega (arith, count, length-append A B), all-append EntryFits A B (each .0) (each .1 .1)))
 
   -- the entries B
-  behind : take (199 * length B) (drop (placeOf (length A) + 199) (encode s)) ≡ putMany entry B
+  behind : take (ENTRY-SIZE * length B) (drop (placeOf (length A) + ENTRY-SIZE) (encode s)) ≡ putMany entry B
   behind =
       let h = s .handed in
       let o = s .held in
@@ -255,32 +255,32 @@ module _ (s : Session) (f : Stored s) (A : List Entry) (x : Entry) (B : List Ent
       let z = replicate {A = ℕ} (AREA - placeOf (length A + suc (length B))) 0 in
       let r = entry .put x ++ (putMany entry B ++ z) in
       let e : encode s ≡ before h o n A ++ r = encode-as s f ∙ ap (parts h o n) (ap places q ∙ places-at A x B) ∙ before-as h o n A r in
-      rw (e, ← drop-drop 199 (placeOf (length A)) (before h o n A ++ r), drop-at (before h o n A) r (placeOf (length A)) (before-length h o n A (f .0) (each .0)), drop-at (entry .put x) (putMany entry B ++ z) 199 (entry-length x (each .1 .0)))
-      (take-at (putMany entry B) z (199 * length B) (entries-length B (each .1 .1)))
+      rw (e, ← drop-drop ENTRY-SIZE (placeOf (length A)) (before h o n A ++ r), drop-at (before h o n A) r (placeOf (length A)) (before-length h o n A (f .0) (each .0)), drop-at (entry .put x) (putMany entry B ++ z) ENTRY-SIZE (entry-length x (each .1 .0)))
+      (take-at (putMany entry B) z (ENTRY-SIZE * length B) (entries-length B (each .1 .1)))
 
   -- the entries B moved down over x, and zeros over the last place
   pub entry-drop :
       {y z : List ℕ} →
-      y ≡ splice (placeOf (length A)) (take (199 * length B) (drop (placeOf (length A) + 199) (encode s))) (encode s) →
-      z ≡ splice (placeOf (length A + length B)) (replicate 199 0) y →
-      splice 107 (le 2 (length A + length B)) z ≡ encode (record { handed = s .handed; held = s .held; entries = A ++ B })
+      y ≡ splice (placeOf (length A)) (take (ENTRY-SIZE * length B) (drop (placeOf (length A) + ENTRY-SIZE) (encode s))) (encode s) →
+      z ≡ splice (placeOf (length A + length B)) (replicate ENTRY-SIZE 0) y →
+      splice COUNT-AT (le 2 (length A + length B)) z ≡ encode (record { handed = s .handed; held = s .held; entries = A ++ B })
   entry-drop {y} {z} u v =
       let a = length A in
       let b = length B in
       let m = putMany entry B in
       let w = AREA - placeOf (a + suc b) in
       let i : length (s .entries) ≤ ENTRIES-MOST = f .1 .0 in
-      let k : 199 + w ≡ AREA - placeOf (a + b) = omega (arith, count) in
-      let d : placeOf (a + b) ≡ placeOf a + 199 * b = omega arith in
-      let l : length (m ++ replicate 199 0) ≡ length (entry .put x ++ m) =
-      length-append m (replicate 199 0) ∙ omega (arith, length-append (entry .put x) m, entry-length x (each .1 .0), length-replicate {A = ℕ} 199 0) in
+      let k : ENTRY-SIZE + w ≡ AREA - placeOf (a + b) = omega (arith, count) in
+      let d : placeOf (a + b) ≡ placeOf a + ENTRY-SIZE * b = omega arith in
+      let l : length (m ++ replicate ENTRY-SIZE 0) ≡ length (entry .put x ++ m) =
+      length-append m (replicate ENTRY-SIZE 0) ∙ omega (arith, length-append (entry .put x) m, entry-length x (each .1 .0), length-replicate {A = ℕ} ENTRY-SIZE 0) in
       let o : places (s .entries) ≡ putMany entry A ++ ((entry .put x ++ m) ++ replicate w 0) =
       ap places q ∙ places-at A x B ∙ ap (λ (t : List ℕ). putMany entry A ++ t) (sym (append-assoc (entry .put x) m (replicate w 0))) in
-      let n : places (A ++ B) ≡ putMany entry A ++ ((m ++ replicate 199 0) ++ replicate w 0) =
-      rw (length-append A B, many-append entry A B, append-assoc, append-assoc, replicate-append-replicate {A = ℕ} 199 w 0, k) in
-      let t : z ≡ splice (placeOf a) (m ++ replicate 199 0) (encode s) =
-      chain (placeOf a) (199 * b) m (replicate 199 0) (encode s) (entries-length B (each .1 .1)) (u ∙ rw behind) (v ∙ rw d) in
-      rw (t, place-put s f A (A ++ B) (entry .put x ++ m) (m ++ replicate 199 0) (replicate w 0) (each .0) l o n, ← length-append A B)
+      let n : places (A ++ B) ≡ putMany entry A ++ ((m ++ replicate ENTRY-SIZE 0) ++ replicate w 0) =
+      rw (length-append A B, many-append entry A B, append-assoc, append-assoc, replicate-append-replicate {A = ℕ} ENTRY-SIZE w 0, k) in
+      let t : z ≡ splice (placeOf a) (m ++ replicate ENTRY-SIZE 0) (encode s) =
+      chain (placeOf a) (ENTRY-SIZE * b) m (replicate ENTRY-SIZE 0) (encode s) (entries-length B (each .1 .1)) (u ∙ rw behind) (v ∙ rw d) in
+      rw (t, place-put s f A (A ++ B) (entry .put x ++ m) (m ++ replicate ENTRY-SIZE 0) (replicate w 0) (each .0) l o n, ← length-append A B)
       (count-put s (length (s .entries)) (A ++ B) drop-stored)
 
 -- ---- no entry
@@ -291,24 +291,24 @@ zero-count n =
     ap (λ (t : List ℕ). t ++ replicate {A = ℕ} n 0) e ∙ replicate-append-replicate {A = ℕ} 2 n 0
 
 pub emptied-zero :
-    (s : Session) → Stored s → zeroFrom 107 (encode s) ≡ encode (record { handed = s .handed; held = s .held; entries = [] })
+    (s : Session) → Stored s → zeroFrom COUNT-AT (encode s) ≡ encode (record { handed = s .handed; held = s .held; entries = [] })
 unfolding zeroFrom putMany
 emptied-zero s f =
     let h = le 2 (s .handed) in
     let o = heldField .put (s .held) in
     let r = le 2 (length (s .entries)) ++ places (s .entries) in
-    let t : take 107 (encode s) ≡ h ++ o =
-    ap (λ (l : List ℕ). take 107 l) (encode-as s f ∙ sym (append-assoc h o r)) ∙ take-at (h ++ o) r 107 (head-length (s .handed) (s .held) (f .0)) in
-    rw (t, encode-length s f) (append-assoc h o (replicate {A = ℕ} (AREA - 107) 0))
-    ∙ ap (λ (l : List ℕ). h ++ (o ++ l)) (sym (zero-count (AREA - 109)))
+    let t : take COUNT-AT (encode s) ≡ h ++ o =
+    ap (λ (l : List ℕ). take COUNT-AT l) (encode-as s f ∙ sym (append-assoc h o r)) ∙ take-at (h ++ o) r COUNT-AT (head-length (s .handed) (s .held) (f .0)) in
+    rw (t, encode-length s f) (append-assoc h o (replicate {A = ℕ} (AREA - COUNT-AT) 0))
+    ∙ ap (λ (l : List ℕ). h ++ (o ++ l)) (sym (zero-count (AREA - ENTRIES-AT)))
     ∙ sym (encode-as (record { handed = s .handed; held = s .held; entries = [] }) (f .0, (omega arith, tt)))
 
 pub emptied :
     (s : Session) → Stored s →
-    splice 107 (replicate (AREA - 107) 0) (encode s) ≡ encode (record { handed = s .handed; held = s .held; entries = [] })
+    splice COUNT-AT (replicate (AREA - COUNT-AT) 0) (encode s) ≡ encode (record { handed = s .handed; held = s .held; entries = [] })
 emptied s f =
     let l = encode-length s f in
-    ap (λ (n : ℕ). splice 107 (replicate (n - 107) 0) (encode s)) (sym l) ∙ zero-fill 107 (encode s) (omega arith) ∙ emptied-zero s f
+    ap (λ (n : ℕ). splice COUNT-AT (replicate (n - COUNT-AT) 0) (encode s)) (sym l) ∙ zero-fill COUNT-AT (encode s) (omega arith) ∙ emptied-zero s f
 
 -- ---- the answer area
 
@@ -316,14 +316,14 @@ answer-list : (es : List Event) → encodeAnswer es ≡ padded AREA (listOf 2 EN
 unfolding encodeAnswer answer slot
 answer-list es = refl
 
-pub events-length : (es : List Event) → allFit es ≡ true → length (putMany event es) ≡ 196 * length es
+pub events-length : (es : List Event) → allFit es ≡ true → length (putMany event es) ≡ ANSWER-EVENT-SIZE * length es
 events-length es f = many-sized event event-sound es (events-each es f) ∙ rw event-width (omega arith)
 
 pub answer-as :
     (es : List Event) → allFit es ≡ true → length es ≤ ENTRIES-MOST →
-    encodeAnswer es ≡ le 2 (length es) ++ (putMany event es ++ replicate (AREA - (2 + 196 * length es)) 0)
+    encodeAnswer es ≡ le 2 (length es) ++ (putMany event es ++ replicate (AREA - (2 + ANSWER-EVENT-SIZE * length es)) 0)
 answer-as es f h =
-    let e : AREA - (0 + (2 + length es * event .width)) ≡ AREA - (2 + 196 * length es) = rw event-width (omega arith) in
+    let e : AREA - (0 + (2 + length es * event .width)) ≡ AREA - (2 + ANSWER-EVENT-SIZE * length es) = rw event-width (omega arith) in
     answer-list es
     ∙ slot-list event-sound AREA 2 ENTRIES-MOST 0 [] es (omega arith) refl (omega (arith, event-width)) h (events-each es f)
     ∙ ap (λ (k : ℕ). le 2 (length es) ++ (putMany event es ++ replicate k 0)) e
@@ -337,21 +337,21 @@ unfolding putMany splice
 event-none y = refl
 
 pub event-put :
-    (es : List Event) (e : Event) (y₀ : List ℕ) (at : ℕ) {y z : List ℕ} → allFit es ≡ true → at ≡ 2 + 196 * length es → Handing es y₀ y →
+    (es : List Event) (e : Event) (y₀ : List ℕ) (at : ℕ) {y z : List ℕ} → allFit es ≡ true → at ≡ 2 + ANSWER-EVENT-SIZE * length es → Handing es y₀ y →
     z ≡ splice at (event .put e) y → Handing (es ++ (e ∷ [])) y₀ z
 event-put es e y₀ at f a p q =
-    chain 2 (196 * length es) (putMany event es) (event .put e) y₀ (events-length es f) p (q ∙ rw a)
+    chain 2 (ANSWER-EVENT-SIZE * length es) (putMany event es) (event .put e) y₀ (events-length es f) p (q ∙ rw a)
     ∙ ap (λ (t : List ℕ). splice 2 t y₀) (sym (many-append event es (e ∷ []) ∙ ap (λ (t : List ℕ). putMany event es ++ t) (many-one event e)))
 
 -- then their count, and zeros behind
 pub answer-done :
     (es : List Event) (y₀ : List ℕ) (at : ℕ) {y z w : List ℕ} → allFit es ≡ true → length es ≤ ENTRIES-MOST → length y₀ ≡ AREA →
-    at ≡ 2 + 196 * length es → Handing es y₀ y → z ≡ splice 0 (le 2 (length es)) y → w ≡ zeroFrom at z → w ≡ encodeAnswer es
+    at ≡ 2 + ANSWER-EVENT-SIZE * length es → Handing es y₀ y → z ≡ splice 0 (le 2 (length es)) y → w ≡ zeroFrom at z → w ≡ encodeAnswer es
 unfolding zeroFrom
 answer-done es y₀ at {y} {z} {w} f h l a p q v =
     let n = length es in
     let m = putMany event es in
-    let k = 196 * n in
+    let k = ANSWER-EVENT-SIZE * n in
     let b = take k (drop 2 y₀) in
     let r = drop at y₀ in
     let i : length m ≡ k = events-length es f in

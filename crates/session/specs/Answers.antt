@@ -1,8 +1,8 @@
 -- What a public call answers, for every input: the areas as they were, what it is given, and what becomes of all of them.
 -- Assumes nothing.
 use Prim.Native.Nat.{ℕ}
-use mathlib.Core.Bool.{Bool, true, false}
-use mathlib.Core.List.{List, [], _∷_}
+use mathlib.Core.Bool.{Bool}
+use mathlib.Core.List.{List, _∷_}
 use mathlib.Core.Option.{Option, some, none}
 use lib.Dec.{eqb}
 use lib.ListN.{replicate}
@@ -12,11 +12,10 @@ use Rattle.session.specs.Limits.{AREA}
 use Rattle.session.specs.Given.{Message, Inputs, Given, brought, finished, WM-SYSKEYDOWN}
 use Rattle.session.specs.Session.{Session}
 use Rattle.session.specs.Area.{encode, decode, sessionOk, encodeAnswer}
-use Rattle.session.specs.Calls.{Sort, keyDown, keyUp, char, deadChar, ignored, focus, sortOf, Effect, effectOf}
+use Rattle.session.specs.Calls.{Sort, keyDown, keyUp, char, deadChar, ignored, focus, sortOf, effectOf}
 use Rattle.session.specs.Questions.{question1, question2, question3, sessionQuestions, firstNo, isHeld}
 use Rattle.session.specs.declared.ProcResult.{ProcResult}
 use Rattle.session.specs.declared.ProcResult.the-variants.{DefWindowProc, Value}
-use Rattle.session.specs.declared.PendingMessageToken.{PendingMessageToken}
 use Rattle.session.specs.declared.Refusal.{Refusal}
 use Rattle.session.specs.declared.Refusal.the-variants as no
 use Rattle.session.specs.declared.OpenAnswer.{OpenAnswer}

@@ -1,10 +1,10 @@
 -- The one area of a session, and that of the events that a call hands out. docs/AREAS.md has the same byte by byte.
 -- Assumes nothing.
-use Prim.Native.Nat.{ℕ, _+_}
+use Prim.Native.Nat.{ℕ}
 use mathlib.Core.Bool.{Bool, true, false, _&&_}
 use mathlib.Core.List.{List, [], _∷_}
 use mathlib.Core.Option.{Option, some, none}
-use lib.Dec.{eqb, ltb, leb}
+use lib.Dec.{eqb, ltb}
 use lib.ListN.{length}
 use Rattle.area.specs.Pick.{pick}
 use Rattle.text.specs.Unicode.{wellFormed}
@@ -12,10 +12,10 @@ use Rattle.keys.specs.Key.{keyNumber, keyAux, keyValue, keyAt, keyOk}
 use Rattle.keys.specs.Text.{FullKey, full, bareOf, textIn}
 use Rattle.keys.specs.Location.{locationNumber, locationAt, locationCases}
 use Rattle.keys.specs.declared.KeyLocation.{KeyLocation}
-use Rattle.keycode.specs.declared.KeyCode.{KeyCode}
-use Rattle.listkey.specs.CodeKey.{codeKey, codeOfKey, codeKeyOk}
-use Rattle.keystroke.specs.declared.KeyLParam.{KeyLParam}
-use Rattle.session.specs.Limits.{AREA, ENTRIES-MOST, UNITS-MOST, TEXT-MOST, KEY-TEXT-MOST}
+use Rattle.keys.specs.declared.key_code.KeyCode.{KeyCode}
+use Rattle.keys.specs.CodeKey.{codeKey, codeOfKey, codeKeyOk}
+use Rattle.lookup.specs.declared.keyboard.KeyLParam.{KeyLParam}
+use Rattle.session.specs.Limits.{AREA, ENTRIES-MOST, UNITS-MOST, TEXT-MOST, KEY-TEXT-MOST, EVENT-SIZE, HELD-SIZE, INFO-SIZE, WAIT-SIZE}
 use Rattle.session.specs.Event.{Event, Info, Held}
 use Rattle.session.specs.Session.{Wait, press, release, character, Entry, waiting, complete, Session, inOrder}
 use Rattle.session.specs.Codec.{Codec, byte, number, nothing, pair, checked, via, slot, Either, left, right, either, listOf}
@@ -125,18 +125,8 @@ fromWait (left p) = press (p .0) (p .1)
 fromWait (right (left n)) = release n
 fromWait (right (right u)) = character
 
--- bytes of a release's info, of what an unresolved entry holds behind its first mark, of an event
-abbrev pub INFO : ℕ
-INFO = 68
-
-abbrev pub WAIT : ℕ
-WAIT = 69
-
-abbrev pub EVENT : ℕ
-EVENT = 196
-
 unfoldable pub wait : Codec Wait
-wait = via toWait fromWait (either (slot WAIT pressed) (either info (slot INFO nothing)))
+wait = via toWait fromWait (either (slot WAIT-SIZE pressed) (either info (slot INFO-SIZE nothing)))
 
 abbrev pub toEntry : Entry → ℕ × Either Wait Event
 toEntry (waiting t w) = (t, left w)
@@ -147,7 +137,7 @@ entryOf t (left w) = waiting t w
 entryOf t (right e) = complete t e
 
 unfoldable pub entry : Codec Entry
-entry = via toEntry (λ p. entryOf (p .0) (p .1)) (pair (number 2) (either (slot EVENT wait) event))
+entry = via toEntry (λ p. entryOf (p .0) (p .1)) (pair (number 2) (either (slot EVENT-SIZE wait) event))
 
 -- ---- the session
 
@@ -159,13 +149,9 @@ abbrev pub fromHeld : Either (Unit {0}) Held → Option Held
 fromHeld (left u) = none
 fromHeld (right h) = some h
 
--- bytes of a held press
-abbrev pub HELD : ℕ
-HELD = 104
-
 -- whether a press is held, and which
 unfoldable pub heldField : Codec (Option Held)
-heldField = via toHeld fromHeld (either (slot HELD nothing) held)
+heldField = via toHeld fromHeld (either (slot HELD-SIZE nothing) held)
 
 unfoldable pub session : Codec Session
 session =

@@ -1,14 +1,14 @@
 -- "The book for demand 3". It is fed each call's arguments without the areas, and whether the call was refused; of the answers it sees nothing.
 -- With the calls it shares what makes events and fakes (Builder, Focus), and nothing that decides what is held, open, ignored or queued.
 -- Assumes nothing.
-use Prim.Native.Nat.{ℕ, zero, suc}
+use Prim.Native.Nat.{ℕ, suc}
 use mathlib.Core.Bool.{Bool, true, false, not, _&&_, _||_}
 use mathlib.Core.List.{List, [], _∷_, _++_}
 use mathlib.Core.Option.{Option, some, none}
 use lib.Dec.{eqb, leb}
 use Rattle.area.specs.Pick.{pick}
 use Rattle.text.specs.Message.{charUnits}
-use Rattle.keystroke.specs.LParam.{keyLParam, virtualKey}
+use Rattle.lookup.specs.LParam.{keyLParam, virtualKey}
 use Rattle.session.specs.Given.{Message, Inputs, Given, brought, finished}
 use Rattle.session.specs.Event.{Event, Info, Held}
 use Rattle.session.specs.Builder.{keyboardOf, fromMessage, heldOf, withUnits, pressEvent, deadCharEvent, charEvent, releaseEvent, fake}

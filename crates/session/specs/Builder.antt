@@ -6,28 +6,26 @@ use mathlib.Core.List.{List, [], _∷_, _++_}
 use mathlib.Core.Option.{Option, some, none}
 use lib.Dec.{eqb}
 use Rattle.area.specs.Pick.{pick}
-use Rattle.area.specs.Look.{lookup}
+use Rattle.area.specs.Look.{assoc}
 use Rattle.text.specs.Unicode.{textOf, utf8Of}
 use Rattle.text.specs.Pieces.{severalIn}
 use Rattle.keys.specs.Places.{control, numLock, pause}
 use Rattle.keys.specs.Text.{FullKey, named, character, unidentified, dead, deadChar, toText}
-use Rattle.keys.specs.declared.KeyLocation.{KeyLocation}
 use Rattle.keys.specs.declared.NativeKeyCode.the-variants as native
-use Rattle.keycode.specs.declared.KeyCode.{KeyCode}
-use Rattle.keycode.specs.declared.KeyCode.the-variants as code
-use Rattle.keycode.specs.Number.{codeNumber}
-use Rattle.scancode.specs.Codes.{keyCodeOf}
-use Rattle.keystroke.specs.LParam.{exScancodeOf}
-use Rattle.keystroke.specs.Modifiers.{activeModifiers, removeOnlyCtrl, bitsOf, numLockOn}
-use Rattle.keystroke.specs.declared.KeyLParam.{KeyLParam}
-use Rattle.keystroke.specs.declared.WindowsModifiers.{WindowsModifiers}
-use Rattle.block.specs.Maps.{Maps}
-use Rattle.block.specs.Block.{mapsOf}
-use Rattle.layout.specs.Layout.{getKey, messageScancode, orElse}
-use Rattle.layout.specs.Location.{locationOf}
+use Rattle.keys.specs.declared.key_code.KeyCode.{KeyCode}
+use Rattle.keys.specs.declared.key_code.KeyCode.the-variants as code
+use Rattle.keys.specs.Number.{codeNumber}
+use Rattle.lookup.specs.Codes.{keyCodeOf}
+use Rattle.lookup.specs.LParam.{exScancodeOf}
+use Rattle.lookup.specs.Modifiers.{activeModifiers, removeOnlyCtrl, bitsOf, numLockOn}
+use Rattle.lookup.specs.declared.keyboard.KeyLParam.{KeyLParam}
+use Rattle.lookup.specs.declared.keyboard_layout.WindowsModifiers.{WindowsModifiers}
+use Rattle.lookup.specs.Maps.{Maps}
+use Rattle.lookup.specs.Block.{mapsOf}
+use Rattle.lookup.specs.Layout.{getKey, messageScancode, orElse}
+use Rattle.lookup.specs.Location.{locationOf}
 use Rattle.session.specs.Given.{Message, Inputs}
 use Rattle.session.specs.Event.{Event, Info, Held}
-use Rattle.session.specs.declared.ElementState.{ElementState}
 use Rattle.session.specs.declared.ElementState.the-variants.{Pressed, Released}
 
 -- ---- what a call's inputs say
@@ -59,7 +57,7 @@ plainKey b vkey scancode = getKey (b .layout) 0 false vkey scancode (keyCodeOf s
 unfoldable pub codeAsKey : Bool → KeyCode → Option FullKey
 codeAsKey false c = none
 codeAsKey true c =
-    lookup ((codeNumber code.NumLock, some (named numLock)) ∷ (codeNumber code.Pause, some (named pause)) ∷ []) none (codeNumber c)
+    assoc ((codeNumber code.NumLock, some (named numLock)) ∷ (codeNumber code.Pause, some (named pause)) ∷ []) none (codeNumber c)
 
 unfoldable pub forcedKey : Keyboard → ℕ → Option FullKey
 forcedKey b scancode = codeAsKey (modifiersIn b .control) (keyCodeOf scancode)

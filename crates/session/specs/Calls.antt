@@ -7,11 +7,11 @@ use mathlib.Core.Option.{Option, some, none}
 use lib.Dec.{eqb}
 use lib.ListN.{length}
 use Rattle.area.specs.Pick.{pick}
-use Rattle.area.specs.Look.{lookup}
+use Rattle.area.specs.Look.{assoc}
 use Rattle.text.specs.Message.{charUnits}
-use Rattle.keystroke.specs.LParam.{keyLParam, virtualKey}
+use Rattle.lookup.specs.LParam.{keyLParam, virtualKey}
 use Rattle.session.specs.Given.{Message, Given, brought, finished, WM-SETFOCUS, WM-KILLFOCUS, WM-KEYDOWN, WM-KEYUP, WM-CHAR, WM-DEADCHAR, WM-SYSKEYDOWN, WM-SYSKEYUP, WM-SYSCHAR, WM-SYSDEADCHAR, VK-F4}
-use Rattle.session.specs.Event.{Event, Info, Held}
+use Rattle.session.specs.Event.{Event, Held}
 use Rattle.session.specs.Builder.{Keyboard, keyboardOf, fromMessage, heldOf, withUnits, pressEvent, deadCharEvent, charEvent, releaseEvent, fake}
 use Rattle.session.specs.Focus.{focusEvents}
 use Rattle.session.specs.Session.{Wait, press, release, character, Entry, waiting, complete, Session, tokenOf}
@@ -27,7 +27,7 @@ pub data Sort : Type 0 where
 -- "104 with the whole wParam 73 (F4) does nothing"
 unfoldable pub sortOf : Message → Sort
 sortOf m =
-    lookup
+    assoc
     ((WM-KEYDOWN, keyDown) ∷ (WM-SYSKEYDOWN, pick (eqb (m .wparam) VK-F4) ignored keyDown) ∷ (WM-KEYUP, keyUp) ∷ (WM-SYSKEYUP, keyUp) ∷ (WM-CHAR, char) ∷ (WM-SYSCHAR, char) ∷ (WM-DEADCHAR, deadChar) ∷ (WM-SYSDEADCHAR, deadChar) ∷ (WM-SETFOCUS, focus Pressed) ∷ (WM-KILLFOCUS, focus Released) ∷ [])
     ignored
     (m .kind)
@@ -91,12 +91,12 @@ messageEffect s b m ignored = nothingDone s
 -- "A peeked kind other than 100, 101, 104, 105 makes this press the held one"; nothing peeked does not
 unfoldable pub holds : Option Message → Bool
 holds none = false
-holds (some m) = lookup ((WM-KEYDOWN, false) ∷ (WM-KEYUP, false) ∷ (WM-SYSKEYDOWN, false) ∷ (WM-SYSKEYUP, false) ∷ []) true (m .kind)
+holds (some m) = assoc ((WM-KEYDOWN, false) ∷ (WM-KEYUP, false) ∷ (WM-SYSKEYDOWN, false) ∷ (WM-SYSKEYUP, false) ∷ []) true (m .kind)
 
 -- "If the peeked kind is 102 or 106 more is coming"
 unfoldable pub moreComing : Option Message → Bool
 moreComing none = false
-moreComing (some m) = lookup ((WM-CHAR, true) ∷ (WM-SYSCHAR, true) ∷ []) false (m .kind)
+moreComing (some m) = assoc ((WM-CHAR, true) ∷ (WM-SYSCHAR, true) ∷ []) false (m .kind)
 
 -- the event that the finish of a message gives, if any
 unfoldable pub finishEvent : Keyboard → Option Held → Wait → Option Message → Option Event

@@ -1,11 +1,10 @@
 -- Values as bytes of one fixed width, and how such formats are put together.
 -- Assumes nothing.
 use Prim.Native.Nat.{ℕ, zero, suc, _+_, _-_, _*_}
-use mathlib.Core.Bool.{Bool, true, false, _&&_}
+use mathlib.Core.Bool.{Bool, true, _&&_}
 use mathlib.Core.List.{List, [], _∷_, _++_}
-use mathlib.Core.Option.{Option, some, none}
-use lib.Dec.{eqb, ltb, leb}
-use lib.ListN.{length, take, drop, getD, replicate}
+use lib.Dec.{eqb, leb}
+use lib.ListN.{length, take, drop, getD}
 use Rattle.area.specs.Pick.{pick}
 use Rattle.area.specs.Bytes.{le, num}
 use Rattle.area.specs.Splice.{padded}

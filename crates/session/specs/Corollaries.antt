@@ -7,8 +7,8 @@ use mathlib.Core.Option.{Option, some, none}
 use lib.Dec.{ltb}
 use Rattle.area.specs.Pick.{pick}
 use Rattle.session.specs.Event.{Event}
-use Rattle.session.specs.Book.{Arrival, Note, Book, heldIn}
-use Rattle.session.specs.Run.{Call, State, start, run, InRange}
+use Rattle.session.specs.Book.{Arrival, Note, heldIn}
+use Rattle.session.specs.Run.{Call, State, start, run, CallsInRange}
 
 -- the number of the earliest open message
 unfoldable pub earliest : List Arrival → Option ℕ
@@ -25,14 +25,14 @@ before (some n) (x ∷ r) = pick (ltb (x .number) n) (x .event ∷ []) [] ++ bef
 -- "An event waits from its noting until a call hands it out": and it waits for nothing but an earlier open message.
 abbrev pub NeverLate : Type 0
 NeverLate =
-    (cs : List Call) → InRange cs →
+    (cs : List Call) → CallsInRange cs →
     let st : State = run start cs in st .out ≡ before (earliest (st .book .opened)) (st .book .noted)
 
 -- "An entry history would break my retention rule, so no trace of typing may stay": with nothing open and the same press held, or none, the
 -- session area is the same byte for byte, whatever was typed.
 abbrev pub NoHistory : Type 0
 NoHistory =
-    (cs ds : List Call) → InRange cs → InRange ds →
+    (cs ds : List Call) → CallsInRange cs → CallsInRange ds →
     let st : State = run start cs in
     let su : State = run start ds in
     st .book .opened ≡ [] → su .book .opened ≡ [] → heldIn (st .book .held) ≡ heldIn (su .book .held) → st .area ≡ su .area

@@ -2,17 +2,16 @@
 -- Assumes nothing.
 use mathlib.Core.Path.{_≡_}
 use Prim.Native.Nat.{ℕ, _≤_}
-use mathlib.Core.Bool.{Bool, true}
+use mathlib.Core.Bool.{true}
 use mathlib.Core.List.{List, [], _∷_, map}
-use mathlib.Core.Option.{Option, some, none}
+use mathlib.Core.Option.{none}
 use lib.ListN.{length}
 use Rattle.session.specs.Limits.{AREA, KEYS}
-use Rattle.block.specs.Block.{blockOk}
-use Rattle.session.specs.Session.{Session}
+use Rattle.lookup.specs.Block.{blockOk}
 use Rattle.session.specs.Area.{decode, sessionOk}
 use Rattle.session.specs.Answers.{Outcome, refused, answered, freshArea}
 use Rattle.session.specs.Book.{Note}
-use Rattle.session.specs.Run.{Call, State, Closing, start, run, closings, InRange, ClosingsInRange}
+use Rattle.session.specs.Run.{Call, State, Closing, start, run, closings, CallsInRange, ClosingsInRange}
 
 -- "Inputs are well-formed if they pass every question put to inputs alone, 1 to 3 here"
 pub record WellFormed (k : Closing) : Type 0 where
@@ -60,12 +59,13 @@ pub record Closed (closed end : State) : Type 0 where
   -- "and if no press is held either, the session area equals a fresh one in every byte"
   pub as-fresh : end .book .held ≡ none → end .area ≡ freshArea
 
--- Its premises are machine ranges alone, and that the closings are what demand 3 says: well-formed, and one for each open message.
+-- Its premises: the blocks are of bytes, which every block that the code is lent is (proofs/Premises.antt), and the closings are what demand 3
+-- says, well-formed, and one for each open message.
 -- "For every list of opens and finishes, refused ones included and whatever they bring, from a fresh session, each call, closings too, being given
 -- the session area as the one before left it: let what is open after the list be finished, latest first, with well-formed inputs"
 abbrev pub Demand3 : Type 0
 Demand3 =
-    (cs : List Call) (ks : List Closing) → InRange cs →
+    (cs : List Call) (ks : List Closing) → CallsInRange cs →
     let st : State = run start cs in
     let cl : List Call = closings (st .tokens) ks in
     ClosingsInRange ks → AllWellFormed ks → length ks ≡ length (st .tokens) →

@@ -6,7 +6,7 @@ use mathlib.Core.List.{List}
 use mathlib.Core.Option.{Option}
 use Rattle.keys.specs.Text.{FullKey}
 use Rattle.keys.specs.declared.KeyLocation.{KeyLocation}
-use Rattle.keycode.specs.declared.KeyCode.{KeyCode}
+use Rattle.keys.specs.declared.key_code.KeyCode.{KeyCode}
 use Rattle.session.specs.declared.ElementState.{ElementState}
 
 -- KeyEvent, with KeyEventExtra's two fields (the last two) and MessageAsKeyEvent's is_synthetic. Texts are bytes of UTF-8.

@@ -3,15 +3,15 @@
 use Prim.Native.Nat.{ℕ, zero, suc, _+_}
 use mathlib.Core.Bool.{Bool, true, false, not, _&&_}
 use mathlib.Core.List.{List, [], _∷_, _++_}
-use mathlib.Core.Option.{Option, some, none}
+use mathlib.Core.Option.{Option, none}
 use lib.Dec.{eqb}
 use Rattle.area.specs.Pick.{pick}
-use Rattle.area.specs.Look.{lookup}
+use Rattle.area.specs.Look.{assoc}
 use Rattle.keys.specs.Text.{FullKey, toText}
-use Rattle.scancode.specs.Codes.{keyCodeOf}
-use Rattle.keystroke.specs.Modifiers.{down, numLockOn, capsLockOn}
-use Rattle.layout.specs.Layout.{getKey, scanCodeFor}
-use Rattle.layout.specs.Location.{locationOf}
+use Rattle.lookup.specs.Codes.{keyCodeOf}
+use Rattle.lookup.specs.Modifiers.{down, numLockOn, capsLockOn}
+use Rattle.lookup.specs.Layout.{getKey, scanCodeFor}
+use Rattle.lookup.specs.Location.{locationOf}
 use Rattle.session.specs.Limits.{KEYS}
 use Rattle.session.specs.Event.{Event}
 use Rattle.session.specs.Builder.{Keyboard, plainKey}
@@ -28,7 +28,7 @@ VK-CAPITAL = 0x14
 -- the keys that are not among the others: Caps Lock, VK_SHIFT, VK_CONTROL, VK_MENU and the six
 unfoldable pub isOther : ℕ → Bool
 isOther vk =
-    lookup
+    assoc
     ((VK-CAPITAL, false) ∷ (0x10, false) ∷ (0x11, false) ∷ (0x12, false) ∷ (0xA0, false) ∷ (0xA1, false) ∷ (0xA2, false) ∷ (0xA3, false) ∷ (0xA4, false) ∷ (0xA5, false) ∷ [])
     true
     vk

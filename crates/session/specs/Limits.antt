@@ -1,6 +1,9 @@
--- The limits of document 01, each named once.
+-- Limits and sizes, each named once. src/lib.rt has the same for the code.
 -- Assumes nothing.
 use Prim.Native.Nat.{ℕ}
+use Rattle.lookup.specs.Sizes.{ENTRY-TEXT-MOST}
+
+-- ---- the limits of document 01
 
 -- bytes of the session area and of the answer area
 abbrev pub AREA : ℕ
@@ -31,4 +34,56 @@ abbrev pub TEXT-MOST : ℕ
 TEXT-MOST = 48
 
 abbrev pub KEY-TEXT-MOST : ℕ
-KEY-TEXT-MOST = 24
+KEY-TEXT-MOST = ENTRY-TEXT-MOST
+
+-- the numbers of 16 bits: scan codes, virtual keys, units, tokens in the areas
+abbrev pub WORD : ℕ
+WORD = 65536
+
+-- ---- sizes of docs/AREAS.md, in bytes
+
+-- what is kept of a press or a release
+abbrev pub INFO-SIZE : ℕ
+INFO-SIZE = 68
+
+-- what an unresolved entry holds behind its first mark
+abbrev pub WAIT-SIZE : ℕ
+WAIT-SIZE = 69
+
+-- a held press; the same with the mark that there is one
+abbrev pub HELD-SIZE : ℕ
+HELD-SIZE = 104
+
+abbrev pub HELD-FIELD-SIZE : ℕ
+HELD-FIELD-SIZE = 105
+
+-- an event in an entry
+abbrev pub EVENT-SIZE : ℕ
+EVENT-SIZE = 196
+
+-- an entry: token, mark, and what it holds
+abbrev pub ENTRY-SIZE : ℕ
+ENTRY-SIZE = 199
+
+-- an event in the answer area
+abbrev pub ANSWER-EVENT-SIZE : ℕ
+ANSWER-EVENT-SIZE = 196
+
+-- ---- places in the session area: the mark of the held press, the press itself, the number of entries, the first entry
+
+abbrev pub HELD-FIELD-AT : ℕ
+HELD-FIELD-AT = 2
+
+abbrev pub HELD-AT : ℕ
+HELD-AT = 3
+
+abbrev pub COUNT-AT : ℕ
+COUNT-AT = 107
+
+abbrev pub ENTRIES-AT : ℕ
+ENTRIES-AT = 109
+
+-- ---- the first event in the answer area
+
+abbrev pub ANSWER-EVENTS-AT : ℕ
+ANSWER-EVENTS-AT = 2

@@ -1,6 +1,6 @@
 -- The questions each call is put through, each under its number. A question that is not put to a call is passed.
 -- Assumes nothing.
-use Prim.Native.Nat.{ℕ, zero, suc, _+_}
+use Prim.Native.Nat.{ℕ, _+_}
 use mathlib.Core.Bool.{Bool, true, false, _&&_}
 use mathlib.Core.List.{List, [], _∷_}
 use mathlib.Core.Option.{Option, some, none}
@@ -8,9 +8,9 @@ use lib.Dec.{eqb, ltb, leb}
 use lib.ListN.{length}
 use Rattle.area.specs.Pick.{pick}
 use Rattle.text.specs.Message.{charUnits}
-use Rattle.block.specs.Block.{blockOk}
+use Rattle.lookup.specs.Block.{blockOk}
 use Rattle.session.specs.Limits.{AREA, KEYS, OPEN-MOST, ENTRIES-MOST, TOKENS-MOST, UNITS-MOST}
-use Rattle.session.specs.Given.{Message, Inputs, Given, brought, finished, inputsOf}
+use Rattle.session.specs.Given.{Message, Given, brought, finished, inputsOf}
 use Rattle.session.specs.Event.{Held}
 use Rattle.session.specs.Focus.{focusEvents}
 use Rattle.session.specs.Session.{Entry, waiting, complete, Session, openCount}

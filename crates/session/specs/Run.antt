@@ -1,12 +1,11 @@
 -- A run: calls one after the other, each handed the session area as the one before left it, and the book beside them.
 -- Assumes nothing.
-use mathlib.Core.Path.{_≡_}
-use Prim.Native.Nat.{ℕ, zero, suc, _^_, _<_}
-use mathlib.Core.Bool.{Bool, true, false}
+use Prim.Native.Nat.{ℕ}
+use mathlib.Core.Bool.{true, false}
 use mathlib.Core.List.{List, [], _∷_, _++_}
 use mathlib.Core.Option.{Option, some, none}
 use Rattle.area.specs.Bytes.{Bytes}
-use Rattle.session.specs.Given.{Message, Inputs, Given, brought, finished}
+use Rattle.session.specs.Given.{Message, Inputs, Given, brought, finished, inputsOf}
 use Rattle.session.specs.Event.{Event}
 use Rattle.session.specs.Area.{decodeAnswer}
 use Rattle.session.specs.Answers.{Outcome, refused, answered, outcomeOf, freshArea}
@@ -63,25 +62,11 @@ unfoldable pub run : State → List Call → State
 run st [] = st
 run st (c ∷ cs) = run (next st c) cs
 
--- ---- machine ranges: bytes, a 32-bit kind and token, 64-bit wParam and lParam
+-- ---- machine ranges: each block that a call brings is of bytes. No other value needs a range.
 
-abbrev pub InputsInRange : Inputs → Type 0
-InputsInRange i = Bytes (i .keyState) × Bytes (i .block)
-
-abbrev pub MessageInRange : Message → Type 0
-MessageInRange m = (m .kind < 2 ^ 32) × (m .wparam < 2 ^ 64) × (m .lparam < 2 ^ 64)
-
-abbrev pub PeekedInRange : Option Message → Type 0
-PeekedInRange none = Unit {0}
-PeekedInRange (some m) = MessageInRange m
-
-abbrev pub GivenInRange : Given → Type 0
-GivenInRange (brought i m) = InputsInRange i × MessageInRange m
-GivenInRange (finished i t p) = InputsInRange i × (t < 2 ^ 32) × PeekedInRange p
-
-abbrev pub InRange : List Call → Type 0
-InRange [] = Unit {0}
-InRange (c ∷ cs) = GivenInRange (c .given) × Bytes (c .answers) × InRange cs
+abbrev pub CallsInRange : List Call → Type 0
+CallsInRange [] = Unit {0}
+CallsInRange (c ∷ cs) = Bytes (inputsOf (c .given) .block) × CallsInRange cs
 
 -- ---- closings
 
@@ -93,7 +78,7 @@ pub record Closing : Type 0 where
 
 abbrev pub ClosingsInRange : List Closing → Type 0
 ClosingsInRange [] = Unit {0}
-ClosingsInRange (k ∷ ks) = InputsInRange (k .inputs) × PeekedInRange (k .peeked) × Bytes (k .answers) × ClosingsInRange ks
+ClosingsInRange (k ∷ ks) = Bytes (k .inputs .block) × ClosingsInRange ks
 
 -- "let what is open after the list be finished, latest first", each "with the token that its message's open returned"
 unfoldable pub closings : List ℕ → List Closing → List Call

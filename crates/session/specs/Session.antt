@@ -1,7 +1,6 @@
 -- What lives between calls: the queue of entries, the tokens handed out, the held press.
 -- Assumes nothing.
-use mathlib.Core.Path.{_≡_}
-use Prim.Native.Nat.{ℕ, zero, suc, _+_}
+use Prim.Native.Nat.{ℕ, suc}
 use mathlib.Core.Bool.{Bool, true, false, _&&_}
 use mathlib.Core.List.{List, [], _∷_}
 use mathlib.Core.Option.{Option, some, none}
@@ -11,10 +10,9 @@ use Rattle.area.specs.Pick.{pick}
 use Rattle.text.specs.Unicode.{wellFormed}
 use Rattle.keys.specs.Key.{keyNumber, keyFits}
 use Rattle.keys.specs.Text.{FullKey, bareOf, textIn}
-use Rattle.keycode.specs.declared.KeyCode.{KeyCode}
-use Rattle.listkey.specs.CodeKey.{codeFits}
-use Rattle.keystroke.specs.declared.KeyLParam.{KeyLParam}
-use Rattle.session.specs.Limits.{OPEN-MOST, ENTRIES-MOST, TOKENS-MOST, UNITS-MOST, TEXT-MOST, KEY-TEXT-MOST}
+use Rattle.keys.specs.CodeKey.{codeFits}
+use Rattle.lookup.specs.declared.keyboard.KeyLParam.{KeyLParam}
+use Rattle.session.specs.Limits.{OPEN-MOST, ENTRIES-MOST, TOKENS-MOST, UNITS-MOST, TEXT-MOST, KEY-TEXT-MOST, WORD}
 use Rattle.session.specs.Event.{Event, Info, Held}
 
 -- What an open message's finish will need of it: of a press its virtual key and what its lParam says, of a release all that its event
@@ -97,18 +95,18 @@ allFit (e ∷ r) = eventFits e && allFit r
 
 unfoldable pub infoFits : Info → Bool
 infoFits n =
-    ltb (n .scancode) 65536 && (fullKeyFits KEY-TEXT-MOST (n .logicalKey) && fullKeyFits KEY-TEXT-MOST (n .keyWithoutModifiers))
+    ltb (n .scancode) WORD && (fullKeyFits KEY-TEXT-MOST (n .logicalKey) && fullKeyFits KEY-TEXT-MOST (n .keyWithoutModifiers))
 
 unfoldable pub unitsFit : List ℕ → Bool
 unitsFit [] = true
-unitsFit (u ∷ us) = ltb u 65536 && unitsFit us
+unitsFit (u ∷ us) = ltb u WORD && unitsFit us
 
 unfoldable pub heldFits : Option Held → Bool
 heldFits none = true
-heldFits (some h) = infoFits (h .info) && (ltb (h .vkey) 65536 && unitsFit (h .units))
+heldFits (some h) = infoFits (h .info) && (ltb (h .vkey) WORD && unitsFit (h .units))
 
 unfoldable pub waitFits : Wait → Bool
-waitFits (press vkey l) = ltb vkey 65536 && ltb (l .scancode) 256
+waitFits (press vkey l) = ltb vkey WORD && ltb (l .scancode) 256
 waitFits (release n) = infoFits n
 waitFits character = true
 

@@ -1,8 +1,50 @@
 // What the calls answer, as types: key events, the held press, tokens, message results, refusals. No code runs here;
 // specs/ says what open and finish answer.
-use keycode::KeyCode;
 use keys::Key;
 use keys::KeyLocation;
+use keys::key_code::KeyCode;
+
+// ---- limits and sizes, as specs/Limits names them
+
+pub const AREA_SIZE: usize = 65536;
+
+pub const KEY_STATE_SIZE: usize = 256;
+
+pub const OPEN_MOST: usize = 8;
+
+pub const ENTRIES_MOST: usize = 256;
+
+pub const TOKENS_MOST: usize = 4096;
+
+pub const UNITS_MOST: usize = 16;
+
+pub const TEXT_MOST: usize = 48;
+
+pub const KEY_TEXT_MOST: usize = 24;
+
+pub const INFO_SIZE: usize = 68;
+
+pub const HELD_SIZE: usize = 104;
+
+pub const HELD_FIELD_SIZE: usize = 105;
+
+pub const EVENT_SIZE: usize = 196;
+
+pub const ENTRY_SIZE: usize = 199;
+
+pub const ANSWER_EVENT_SIZE: usize = 196;
+
+pub const HELD_FIELD_AT: usize = 2;
+
+pub const HELD_AT: usize = 3;
+
+pub const COUNT_AT: usize = 107;
+
+pub const ENTRIES_AT: usize = 109;
+
+pub const ANSWER_EVENTS_AT: usize = 2;
+
+// ---- events
 
 // A text in UTF-8, zeros behind; of length 0 where there is none.
 pub struct Text {

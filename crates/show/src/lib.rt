@@ -117,7 +117,7 @@ pub fn said_by_open(a: OpenAnswer) -> Said {
     match a {
         OpenAnswer::Refused(no) => Said {
             what: 0,
-            number: answernumber::refusal_number(no),
+            number: export::numbers::refusal_number(no),
         },
         OpenAnswer::Opened(token) => Said {
             what: 2,
@@ -131,7 +131,7 @@ pub fn said_by_finish(a: FinishAnswer) -> Said {
     match a {
         FinishAnswer::Refused(no) => Said {
             what: 0,
-            number: answernumber::refusal_number(no),
+            number: export::numbers::refusal_number(no),
         },
         FinishAnswer::Finished => Said { what: 1, number: 0 },
     }

@@ -17,7 +17,10 @@ use lines::find;
 use lines::message_at;
 use lines::number_at;
 use lines::part;
-use peeked::Peeked;
+use message::peeked::Peeked;
+use session::ANSWER_EVENT_SIZE;
+use session::ANSWER_EVENTS_AT;
+use session::AREA_SIZE;
 use session::PendingMessageToken;
 use session::ProcResult;
 use show::byte_at;
@@ -51,7 +54,7 @@ fn show_key_name(names: &[u8], place: u16) {
     show_line(names, CODES + place as u64);
 }
 
-// ---- an event, of 196 bytes (docs/AREAS.md)
+// ---- an event (docs/AREAS.md)
 
 // A part of an event from a place on; empty where it ends before.
 fn from_place(e: &[u8], at: usize) -> &[u8] {
@@ -154,7 +157,10 @@ fn show_events(names: &[u8], answers: &[u8]) {
     let n = u16_at(answers, 0) as usize;
     let mut i: usize = 0;
     while i < n {
-        show_event(names, from_place(answers, 2 + 196 * i));
+        show_event(
+            names,
+            from_place(answers, ANSWER_EVENTS_AT + ANSWER_EVENT_SIZE * i),
+        );
         i += 1;
     }
 }
@@ -194,7 +200,10 @@ fn take_texts(card: &mut [u8; 256], answers: &[u8]) {
     let n = u16_at(answers, 0) as usize;
     let mut i: usize = 0;
     while i < n {
-        take_text(card, from_place(answers, 2 + 196 * i));
+        take_text(
+            card,
+            from_place(answers, ANSWER_EVENTS_AT + ANSWER_EVENT_SIZE * i),
+        );
         i += 1;
     }
 }
@@ -243,8 +252,8 @@ fn hand_out(names: &[u8], answers: &[u8], card: &mut [u8; 256]) {
 // Brings a message, and shows the token that it opened.
 fn bring(
     names: &[u8],
-    session: &mut [u8; 65536],
-    answers: &mut [u8; 65536],
+    session: &mut [u8; AREA_SIZE],
+    answers: &mut [u8; AREA_SIZE],
     card: &mut [u8; 256],
     state: &[u8; 256],
     block: &[u8],
@@ -296,8 +305,8 @@ fn show_peeked(p: Peeked) {
 // Finishes the message of a token.
 fn end(
     names: &[u8],
-    session: &mut [u8; 65536],
-    answers: &mut [u8; 65536],
+    session: &mut [u8; AREA_SIZE],
+    answers: &mut [u8; AREA_SIZE],
     card: &mut [u8; 256],
     state: &[u8; 256],
     block: &[u8],
@@ -334,8 +343,8 @@ fn peeked_at(line: &[u8], from: usize) -> Peeked {
 // A line that makes a call.
 fn make_call(
     names: &[u8],
-    session: &mut [u8; 65536],
-    answers: &mut [u8; 65536],
+    session: &mut [u8; AREA_SIZE],
+    answers: &mut [u8; AREA_SIZE],
     card: &mut [u8; 256],
     state: &[u8; 256],
     block: &[u8],
@@ -408,7 +417,7 @@ fn shift<'a>(names: &[u8], us: &'a [u8], flagged: &'a [u8], accent: &'a [u8], in
     let mut layout: u64 = 0;
     let mut at: usize = 0;
     let mut turn: usize = 0;
-    headerwrite::fresh(&mut session);
+    record::write::fresh(&mut session);
     while turn < input.len() {
         let to = find(input, at, b'\n');
         let line = part(input, at, to);

@@ -87,7 +87,7 @@ fn show_text(row: [u16; 4]) {
     let units = &row[1..n + 1];
     show_units(units);
     io::write_all(STDOUT_FILENO, b"->");
-    let text = utf16::utf16_text(units);
+    let text = text::utf16::utf16_text(units);
     let bytes = text.bytes;
     if text.valid {
         show_start(bytes, text.len);
@@ -108,7 +108,7 @@ fn show_check(row: [u8; 10]) {
     }
     io::print_hex(STDOUT_FILENO, row[1] as u64, 2);
     show_bytes(&row[2..n + 1]);
-    if utf8::well_formed(&row[1..n + 1]) {
+    if text::utf8::well_formed(&row[1..n + 1]) {
         io::write_all(STDOUT_FILENO, b" ok\n");
     } else {
         io::write_all(STDOUT_FILENO, b" bad\n");

@@ -1,15 +1,15 @@
 // Work to be timed, by tools/bench: the first argument says what (b: the check of us.block, k: lookups in it, t: text conversions, z: scans
 // of 65,536 zeros), the second how many rounds. It prints how many passed, found a character, have a text, or found zeros.
-ghost use Prim.Native.Nat.{_≤_};
-ghost use mathlib.Core.Path.{_≡_};
 ghost use mathlib.Core.Bool.{true};
-ghost use Rattle.block.specs.Block.{blockOk};
+ghost use mathlib.Core.Path.{_≡_};
+ghost use Prim.Native.Nat.{_≤_};
+ghost use Rattle.lookup.specs.Block.{blockOk};
 use libc::STDOUT_FILENO;
-use lookup::WindowsModifiers;
-use lookup::block_ok;
+use lookup::block::block_ok;
+use lookup::keyboard_layout::WindowsModifiers;
 use lookup::keyboard_layout::get_key;
 use lookup::keyboard_layout::scancode_for;
-use lookup::keycode_from_scancode;
+use lookup::keycode::keycode_from_scancode;
 
 // The number that decimal digits spell; one of ten digits and more counts as 0.
 fn rounds_in(t: &[u8]) -> u64 {
@@ -79,7 +79,7 @@ fn convert_one(i: u64) -> u64
 {
     let mut units = [0x0031u16; 16];
     units[0] = (i % 0x8000) as u16;
-    let text = utf16::utf16_text(&units);
+    let text = text::utf16::utf16_text(&units);
     if text.valid {
         return 1;
     }
@@ -95,7 +95,7 @@ fn scan_one(bytes: &mut [u8], i: u64) -> u64
         return 0;
     }
     bytes[at] = 0;
-    if scan::zero_from(bytes, 0) {
+    if area::scan::zero_from(bytes, 0) {
         return 1;
     }
     0

@@ -2,7 +2,7 @@
 -- Assumes nothing.
 use mathlib.Core.Path.{refl}
 use borrow.Author.Needs.{needs}
-use Rattle.export.proofs.Kept.{done, undone, was-read}
+use Rattle.export.proofs.Interface.{done, undone, was-read}
 use Rattle.export.proofs.mahjonglarch_event.Statement.{statement}
 use Rattle.export.proofs.mahjonglarch_event.Tie as tie
 

@@ -4,8 +4,8 @@ use borrow.Author.Needs.{needs}
 use mathlib.Core.Path.{refl, sym, _∙_}
 use native.Mathlib.Omega.{arith}
 use borrow.Author.Tests.{not-true, not-false}
-use Rattle.answerevents.proofs.Place.{answer-is}
-use Rattle.export.proofs.Kept.{no-count, a-count}
+use Rattle.export.proofs.events.Place.{answer-is}
+use Rattle.export.proofs.Interface.{no-count, a-count}
 use Rattle.export.proofs.mahjonglarch_event_count.Statement.{statement}
 use Rattle.export.proofs.mahjonglarch_event_count.Tie as tie
 

@@ -2,7 +2,7 @@
 -- Assumes nothing.
 use mathlib.Core.Path.{refl}
 use borrow.Author.Needs.{needs}
-use Rattle.export.proofs.Kept.{text-said}
+use Rattle.export.proofs.Interface.{text-said}
 use Rattle.export.proofs.mahjonglarch_event_text.Statement.{statement}
 use Rattle.export.proofs.mahjonglarch_event_text.Tie as tie
 
@@ -13,7 +13,10 @@ same-length : tie.Need-same-length
 same-length c = search needs
 
 returns : tie.Need-returns
-returns c = text-said _ _ (c .before .before .before .before .before .before .args .i) (c .before .before .before .before .before .before .args .which) (c .before .before .read-text .ensures) refl refl
+returns c =
+    let called = c .before .before in
+    let a = called .before .before .before .before .args in
+    text-said _ _ (a .i) (a .which) (called .read-text .ensures) refl refl
 
 pub mahjonglarch-event-text-spec : {M : Type 1} → statement M
 mahjonglarch-event-text-spec = tie.close (tie.spec read-text-requires same-length returns)

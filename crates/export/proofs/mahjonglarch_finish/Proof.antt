@@ -2,7 +2,7 @@
 -- Assumes nothing.
 use mathlib.Core.Path.{refl}
 use borrow.Author.Needs.{needs}
-use Rattle.export.proofs.Kept.{finish-says}
+use Rattle.export.proofs.Interface.{finish-says}
 use Rattle.export.proofs.mahjonglarch_finish.Statement.{statement}
 use Rattle.export.proofs.mahjonglarch_finish.Tie as tie
 
@@ -22,7 +22,13 @@ same-length-2 : tie.Need-same-length-2
 same-length-2 c = search needs
 
 returns : tie.Need-returns
-returns c = finish-says _ _ _ (c .before .before .before .before .before .before .before .before .before .before .before .before .before .args .token) (c .before .before .before .before .before .finish .ensures) refl (c .before .before .before .before .before .before .before .before .peeked-at .ensures) (c .finish-number .ensures)
+returns c =
+    let passed = c .before in
+    let finished = passed .before .before .before .before in
+    let peeked = finished .before .before .before in
+    let asked = peeked .before in
+    let start = asked .before .before .before .before in
+    finish-says _ _ _ (start .args .token) (finished .finish .ensures) refl (peeked .peeked-at .ensures) (c .finish-number .ensures)
 
 pub mahjonglarch-finish-spec : {M : Type 1} → statement M
 mahjonglarch-finish-spec =

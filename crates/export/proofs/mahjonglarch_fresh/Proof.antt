@@ -2,7 +2,7 @@
 -- Assumes nothing.
 use native.Mathlib.Omega.{arith}
 use borrow.Author.Needs.{needs}
-use Rattle.export.proofs.Kept.{made, not-made}
+use Rattle.export.proofs.Interface.{made, not-made}
 use Rattle.export.proofs.mahjonglarch_fresh.Statement.{statement}
 use Rattle.export.proofs.mahjonglarch_fresh.Tie as tie
 
@@ -16,7 +16,7 @@ returns : tie.Need-returns
 returns c =
     let called = c .before .before .before in
     let e = called .fresh .ensures in
-    (omega (arith, made (called .before .before .before .args .area .now) (e .0) (c .if1 .taken)), e .1)
+    (omega (arith, made (called .before .before .before .args .session .now) (e .0) (c .if1 .taken)), e .1)
 
 same-length-2 : tie.Need-same-length-2
 same-length-2 c = search needs
@@ -25,7 +25,7 @@ returns-2 : tie.Need-returns-2
 returns-2 c =
     let called = c .before .before .before in
     let e = called .fresh .ensures in
-    (omega (arith, not-made (called .before .before .before .args .area .now) (e .0) (c .if1 .left)), e .1)
+    (omega (arith, not-made (called .before .before .before .args .session .now) (e .0) (c .if1 .left)), e .1)
 
 pub mahjonglarch-fresh-spec : {M : Type 1} → statement M
 mahjonglarch-fresh-spec =

@@ -3,7 +3,7 @@
 use mathlib.Core.Path.{refl}
 use borrow.Author.Needs.{needs}
 use Rattle.message.specs.Calls.{message}
-use Rattle.export.proofs.Kept.{open-says}
+use Rattle.export.proofs.Interface.{open-says}
 use Rattle.export.proofs.mahjonglarch_open.Statement.{statement}
 use Rattle.export.proofs.mahjonglarch_open.Tie as tie
 
@@ -27,9 +27,13 @@ same-length-2 c = search needs
 
 returns : tie.Need-returns
 returns c =
-    let called = c .before .before .before .before .before .before .before in
-    let a = called .before .before .before .before .before .before .before .args in
-    open-says _ _ _ (message (a .kind) (a .wparam) (a .lparam)) (called .«open» .ensures) refl refl (c .open-number .ensures) (c .before .before .token-number .ensures) (c .before .result-number .ensures)
+    let token = c .before .before in
+    let passed = token .before in
+    let opened = passed .before .before .before .before in
+    let given = opened .before .before .before in
+    let a = given .before .before .before .before .args in
+    open-says _ _ _ (message (a .kind) (a .wparam) (a .lparam)) (opened .«open» .ensures) refl refl (c .open-number .ensures)
+    (token .token-number .ensures) (c .before .result-number .ensures)
 
 pub mahjonglarch-open-spec : {M : Type 1} → statement M
 mahjonglarch-open-spec =

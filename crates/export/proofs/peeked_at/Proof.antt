@@ -1,6 +1,6 @@
 -- `export::peeked_at` meets its contract: the number decides.
 -- Assumes nothing.
-use Rattle.export.proofs.Kept.{no-peek, a-peek}
+use Rattle.export.proofs.Interface.{no-peek, a-peek}
 use Rattle.export.proofs.peeked_at.Statement.{statement}
 use Rattle.export.proofs.peeked_at.Tie as tie
 

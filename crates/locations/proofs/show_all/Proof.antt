@@ -5,7 +5,7 @@ use mathlib.Core.Bool.{true}
 use native.Mathlib.Omega.{arith}
 use borrow.Author.Tests.{not-false}
 use borrow.Author.Needs.{needs}
-use Rattle.block.specs.Block.{blockOk}
+use Rattle.lookup.specs.Block.{blockOk}
 use Rattle.locations.proofs.show_all.Statement.{statement}
 use Rattle.locations.proofs.show_all.Tie as tie
 

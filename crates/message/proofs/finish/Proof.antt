@@ -3,25 +3,28 @@
 use mathlib.Core.Path.{refl}
 use borrow.Author.Needs.{needs}
 use Rattle.session.specs.Area.{decode}
-use Rattle.session.specs.Calls.{findWait, finishEffect}
-use Rattle.focus.specs.Written.{keyboardAt}
-use Rattle.peeked.specs.Peeked.{asPeeked}
-use Rattle.finishing.specs.Resolves.{Does}
-use Rattle.message.proofs.Asked.{asked-area, asked-answers, asked-block, told-done, finish-early, finish-late, finish-passed}
+use Rattle.event.specs.Written.{keyboardAt}
+use Rattle.queue.specs.Changed.{Does}
+use Rattle.message.specs.Peeked.{asPeeked}
+use Rattle.message.specs.Resolves.{finishedBy}
+use Rattle.message.proofs.CallAnswers.{asked-area, asked-answers, asked-block, told-done, finish-early, finish-late, finish-passed}
 use Rattle.message.proofs.finish.Statement.{statement}
 use Rattle.message.proofs.finish.Tie as tie
 
 -- from the finish of the message back to what the call is given
 abbrev given : tie.After-finish-open → tie.Start
 given c =
-    let early = c .before .before .before .before .before .before .before .before .before in
-    early .before .before .before .before .before .before .before
+    let passed = c .before .before .before in
+    let late = passed .before .before in
+    let early = late .before .before .before .before in
+    let known = early .before .before .before in
+    known .before .before .before .before
 
 -- the message of the call's token is finished, with what the call was given as peeked
 done-in :
     (c : tie.After-finish-open) →
     let a = given c .args in
-    Does (finishEffect (decode (a .session .now)) (keyboardAt (a .block .now) (a .state .now)) (a .token .0) (asPeeked (a .peeked)) (findWait (a .token .0) (decode (a .session .now) .entries))) (c .finish-open .last .0) (c .finish-open .last .1 .0)
+    Does (finishedBy (decode (a .session .now)) (keyboardAt (a .block .now) (a .state .now)) (a .token .0) (asPeeked (a .peeked))) (c .finish-open .last .0) (c .finish-open .last .1 .0)
 done-in c = let a = given c .args in told-done _ _ (a .token .0) (a .peeked) (c .finish-open .ensures) (refl, refl)
 
 ask-areas-requires : tie.Need-ask-areas-requires
@@ -69,8 +72,10 @@ enum-told-2 c = search needs
 
 finish-open-requires : tie.Need-finish-open-requires
 finish-open-requires c κs =
-    let e = c .before .before .before .before .before .before .before .before .ask-areas .ensures in
-    let p = c .before .before .before .before .before .before .enum-told .given .1 in
+    let late = c .before .before .before .before in
+    let told = late .before .before in
+    let e = told .before .before .ask-areas .ensures in
+    let p = told .enum-told .given .1 in
     (asked-area _ _ _ _ e p, asked-answers _ _ _ _ e p, asked-block _ _ _ _ e p)
 
 same-length-5 : tie.Need-same-length-5

@@ -5,20 +5,20 @@ use native.Mathlib.Omega.{arith}
 use borrow.Author.Needs.{needs}
 use Rattle.session.specs.Area.{decode}
 use Rattle.session.specs.Questions.{firstNo, messageQuestions}
-use Rattle.focus.specs.Written.{keyboardAt}
-use Rattle.questions.specs.Asked.{asNo}
-use Rattle.sorts.specs.Sorts.{asSort}
+use Rattle.event.specs.Written.{keyboardAt}
+use Rattle.message.specs.Asked.{asNo}
+use Rattle.message.specs.Sorts.{asSort}
 use Rattle.message.specs.Calls.{message}
-use Rattle.message.proofs.Asked.{asked-area, asked-answers, asked-block, asked-passes, told-asked, open-early, open-late, open-passed}
+use Rattle.message.proofs.CallAnswers.{asked-area, asked-answers, asked-block, asked-passes, told-asked, open-early, open-late, open-passed}
 use Rattle.message.proofs.open.Statement.{statement}
 use Rattle.message.proofs.open.Tie as tie
 
 -- from the first questions back to what the call is given
 abbrev given : tie.After-ask-areas → tie.Start
-given c = c .before .before .before .before .before .before .before
+given c = let known = c .before .before .before in known .before .before .before .before
 
 abbrev asked : tie.After-ask-message → tie.After-ask-areas
-asked c = c .before .before .before .before .before
+asked c = let told = c .before .before .before in told .before .before
 
 -- the later questions are those of the message's sort
 late-in :
@@ -85,7 +85,9 @@ enum-told-2 c = search needs
 
 header-at-requires : tie.Need-header-at-requires
 header-at-requires c κs =
-    let told = c .before .before .before .before .before .before in
+    let passed = c .before in
+    let late = passed .before .before in
+    let told = late .before .before .before in
     let a = asked-area _ _ _ _ (told .before .before .ask-areas .ensures) (told .enum-told .given .1) in omega (arith, a .size)
 
 result-after-requires : tie.Need-result-after-requires
@@ -93,12 +95,14 @@ result-after-requires c κs = search needs
 
 open-by-requires : tie.Need-open-by-requires
 open-by-requires c κs =
-    let late = c .before .before .before .before .before .before .before in
+    let result = c .before .before in
+    let passed = result .before .before .before in
+    let late = passed .before .before in
     let told = late .before .before .before in
     let e = told .before .before .ask-areas .ensures in
     let p = told .enum-told .given .1 in
-    let passed = c .before .before .before .before .before .enum-told2 .given .1 in
-    (asked-area _ _ _ _ e p, asked-answers _ _ _ _ e p, asked-block _ _ _ _ e p, asked-passes _ _ _ _ (told-asked _ _ _ (late .before .before .sort-of .result) _ (late .ask-message .ensures 0 _) refl) passed)
+    let asked = told-asked _ _ _ (late .before .before .sort-of .result) _ (late .ask-message .ensures 0 _) refl in
+    (asked-area _ _ _ _ e p, asked-answers _ _ _ _ e p, asked-block _ _ _ _ e p, asked-passes _ _ _ _ asked (passed .enum-told2 .given .1))
 
 answered-requires-3 : tie.Need-answered-requires-3
 answered-requires-3 c κs = search needs
@@ -111,7 +115,8 @@ same-length-6 c = search needs
 
 returns-3 : tie.Need-returns-3
 returns-3 c =
-    let done = c .before .before .before .before .before in
+    let said = c .before in
+    let done = said .before .before .before .before in
     let result = done .before .before .before in
     let head = result .before in
     let passed = head .before .before in

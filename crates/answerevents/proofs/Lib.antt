@@ -1,3 +1,0 @@
-pub mod Place
-mod Left
-pub mod Back

@@ -1,3 +1,0 @@
-pub mod Maps
-pub mod Block
-pub mod Encode

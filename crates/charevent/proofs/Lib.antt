@@ -1,2 +1,0 @@
-mod Texts
-mod Last

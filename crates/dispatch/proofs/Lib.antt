@@ -1,3 +1,0 @@
-mod Passed
-mod Result
-mod Sorted

@@ -1,0 +1,4 @@
+mod Keys
+pub mod Events
+pub mod Keyboard
+mod SyntheticEvent

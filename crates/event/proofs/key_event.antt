@@ -1,0 +1,3 @@
+pub mod Texts
+mod TypedKey
+mod Events

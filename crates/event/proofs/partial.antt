@@ -1,0 +1,5 @@
+mod Copy
+mod TextKeys
+pub mod Asked
+mod Control
+mod Info

@@ -1,0 +1,3 @@
+pub mod Bare
+pub mod Made
+pub mod Written

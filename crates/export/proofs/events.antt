@@ -1,0 +1,5 @@
+mod Fields
+mod Put
+pub mod Place
+mod Reading
+pub mod HandedOut

@@ -1,1 +1,0 @@
-// The entry that a finish resolves, what waits there, and what the finish leaves: definitions and laws. No code runs here.

@@ -1,3 +1,0 @@
-pub mod Events
-mod Notes
-pub mod Noted

@@ -1,2 +1,0 @@
-mod HeldField
-mod FreshArea

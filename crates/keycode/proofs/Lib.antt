@@ -1,3 +1,0 @@
-pub mod EachCode
-pub mod Codes
-pub mod Tags

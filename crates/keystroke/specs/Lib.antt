@@ -1,2 +1,0 @@
-pub mod LParam
-pub mod Modifiers

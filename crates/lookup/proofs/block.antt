@@ -1,0 +1,9 @@
+pub mod Entry
+pub mod Lists
+pub mod Passed
+pub mod Find
+pub mod Read
+pub mod Items
+pub mod Rows
+pub mod MapsBack
+pub mod MapsExact

@@ -1,0 +1,4 @@
+pub mod Sets
+pub mod Tables
+pub mod Keys
+pub mod Ranges

@@ -1,0 +1,9 @@
+pub mod Sizes
+pub mod Codes
+pub mod Maps
+pub mod Block
+pub mod Encode
+pub mod LParam
+pub mod Modifiers
+pub mod Layout
+pub mod Location

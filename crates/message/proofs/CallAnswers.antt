@@ -1,0 +1,275 @@
+-- What a call leaves, by its questions.
+-- Assumes nothing.
+use mathlib.Core.Path.{_≡_, refl, sym, ap, _∙_}
+use mathlib.Core.Bool.{Bool, true, false}
+use mathlib.Core.List.{List, [], _∷_, _++_}
+use mathlib.Core.Option.{Option, some, none}
+use Prim.Native.Nat.{ℕ}
+use native.Mathlib.Omega.{arith}
+use lib.Dec.{eqb}
+use lib.ListN.{length}
+use borrow.Author.Tests.{eqb-true}
+use Rattle.area.specs.Pick.{pick}
+use Rattle.lookup.specs.Block.{blockOk}
+use Rattle.session.specs.Limits.{AREA}
+use Rattle.session.specs.Given.{Message, Given, brought, finished, inputsOf}
+use Rattle.session.specs.Event.{Event, Held}
+use Rattle.session.specs.Session.{Wait, Session}
+use Rattle.session.specs.Area.{encode, decode, sessionOk, encodeAnswer}
+use Rattle.session.specs.Builder.{Keyboard, keyboardOf}
+use Rattle.session.specs.Calls.{Sort, sortOf, Effect, effectOf, messageEffect, findWait, resolved, finishEffect}
+use Rattle.session.specs.Questions.{question1, question2, question3, question5, question6, question7, question8, question9, firstNo, messageQuestions, finishQuestions, sessionQuestions}
+use Rattle.session.specs.Answers.{Outcome, refused, answered, questions, outcomeBy, outcomeOf, refusalNumber, Said, openSaid, finishSaid, saidToken, resultBy, leftBy, openOf, finishOf}
+use Rattle.session.specs.declared.ProcResult.{ProcResult}
+use Rattle.session.specs.declared.OpenAnswer.{OpenAnswer}
+use Rattle.session.specs.declared.OpenAnswer.the-variants as o
+use Rattle.session.specs.declared.FinishAnswer.the-variants as f
+use Rattle.session.specs.declared.Refusal.{Refusal}
+use Rattle.session.proofs.Laws.{effect-brought, effect-finished, finish-found, finish-lost}
+use Rattle.session.proofs.Lists.{and-true}
+use Rattle.event.specs.Written.{keyboardAt}
+use Rattle.queue.specs.Changed.{Does}
+use Rattle.queue.specs.Room.{IsArea}
+use Rattle.message.specs.Asked.{asNo, firstFour}
+use Rattle.message.specs.Sorts.{asSort}
+use Rattle.message.specs.declared.questions.Asked.{Asked}
+use Rattle.message.specs.declared.questions.Asked.the-variants as a
+use Rattle.message.specs.declared.sorts.MessageSort.{MessageSort}
+use Rattle.message.specs.Gives.{Gives}
+use Rattle.message.specs.Passes.{Passes}
+use Rattle.message.specs.Peeked.{asPeeked}
+use Rattle.message.specs.declared.peeked.Peeked.{Peeked}
+use Rattle.message.specs.Resolves.{finishedBy}
+use Rattle.message.specs.Calls.{inputs, left}
+
+-- ---- questions behind others
+
+-- one question, with the answer p to it
+failed-by : (p : Bool) (k n : ℕ) (w v : Option ℕ) → some n ≡ pick p w (some k) → (some n ≡ w → some n ≡ v) → some n ≡ pick p v (some k)
+failed-by true k n w v e f = f e
+failed-by false k n w v e f = e
+
+passed-by : (p : Bool) (k : ℕ) (w : Option ℕ) → none ≡ pick p w (some k) → (p ≡ true) × (none ≡ w)
+passed-by true k w e = (refl, e)
+passed-by false k w e = let z : _≡_ {A = ℕ} 0 1 = cc in absurd (omega arith)
+
+failed-before : (n : ℕ) (qs rs : List (ℕ × Bool)) → some n ≡ firstNo qs → some n ≡ firstNo (qs ++ rs)
+unfolding firstNo
+failed-before n [] rs e = let z : _≡_ {A = ℕ} 0 1 = cc in absurd (omega arith)
+failed-before n (q ∷ qs) rs e = failed-by (q .1) (q .0) n (firstNo qs) (firstNo (qs ++ rs)) e (failed-before n qs rs)
+
+first-passed : (k : ℕ) (p : Bool) (qs : List (ℕ × Bool)) → none ≡ firstNo ((k, p) ∷ qs) → (p ≡ true) × (none ≡ firstNo qs)
+unfolding firstNo
+first-passed k p qs e = passed-by p k (firstNo qs) e
+
+passed-before : (qs rs : List (ℕ × Bool)) → none ≡ firstNo qs → firstNo (qs ++ rs) ≡ firstNo rs
+unfolding firstNo
+passed-before [] rs e = refl
+passed-before (q ∷ qs) rs e = let h = passed-by (q .1) (q .0) (firstNo qs) e in rw (h .0) (passed-before qs rs (h .1))
+
+-- ---- the outcome
+
+module _ (x y : List ℕ) (g : Given) where
+  abbrev four : List (ℕ × Bool)
+  four = firstFour x y (inputsOf g .keyState) (inputsOf g .block)
+
+  in-two : questions x y g ≡ four ++ sessionQuestions (decode x) g
+  unfolding questions firstFour question2 question3
+  in-two = refl
+
+  outcome-as : (w : Option ℕ) → w ≡ firstNo (questions x y g) → outcomeOf x y g ≡ outcomeBy w (decode x) g
+  unfolding outcomeOf
+  outcome-as w e = rw e refl
+
+  outcome-early : (n : ℕ) → some n ≡ firstNo four → outcomeOf x y g ≡ refused n
+  unfolding outcomeBy
+  outcome-early n e = outcome-as (some n) (rw in-two (failed-before n four (sessionQuestions (decode x) g) e))
+
+  module _ (early : none ≡ firstNo four) where
+    after-four : firstNo (questions x y g) ≡ firstNo (sessionQuestions (decode x) g)
+    after-four = rw in-two (passed-before four (sessionQuestions (decode x) g) early)
+
+    outcome-late : (n : ℕ) → some n ≡ firstNo (sessionQuestions (decode x) g) → outcomeOf x y g ≡ refused n
+    unfolding outcomeBy
+    outcome-late n e = outcome-as (some n) (e ∙ sym after-four)
+
+    outcome-passed :
+        none ≡ firstNo (sessionQuestions (decode x) g) →
+        outcomeOf x y g ≡ answered (effectOf (decode x) g .token) (encode (effectOf (decode x) g .after)) (encodeAnswer (effectOf (decode x) g .events))
+    unfolding outcomeBy
+    outcome-passed e = outcome-as none (e ∙ sym after-four)
+
+-- ---- 1 to 4
+
+module _ (x y state block : List ℕ) {q : Asked} (early : asNo q ≡ firstNo (firstFour x y state block)) (passed : q ≡ a.Passed) where
+  pub four-none : none ≡ firstNo (firstFour x y state block)
+  unfolding asNo
+  four-none = rw passed at early
+
+  each : (question1 x y ≡ true) × (blockOk block ≡ true) × (sessionOk x ≡ true)
+  unfolding firstFour
+  each =
+      let p = first-passed 1 (question1 x y) _ four-none in
+      let t = first-passed 2 _ _ (p .1) in
+      let b = first-passed 3 (blockOk block) _ (t .1) in
+      let s = first-passed 4 (sessionOk x) _ (b .1) in
+      (p .0, b .0, s .0)
+
+  sizes : (length x ≡ AREA) × (length y ≡ AREA)
+  unfolding question1
+  sizes = let h = and-true (eqb (length x) AREA) (eqb (length y) AREA) (each .0) in (eqb-true (length x) AREA (h .0), eqb-true (length y) AREA (h .1))
+
+  pub asked-area : IsArea x
+  asked-area = record { size = sizes .0; passed = each .2 }
+
+  pub asked-answers : length y ≡ AREA
+  asked-answers = sizes .1
+
+  pub asked-block : blockOk block ≡ true
+  asked-block = each .1
+
+-- ---- what is left
+
+same-left : {s u : Said} {r q : ProcResult} {x v y w : List ℕ} → s ≡ u → r ≡ q → x ≡ v → y ≡ w → left s r x y ≡ left u q v w
+same-left a b c d = rw (a, b, c, d) refl
+
+-- by an open
+module _ (x y state block : List ℕ) (r : ProcResult) (m : Message) where
+  abbrev brings : Given
+  brings = brought (inputs state block) m
+
+  opened-as : (w : Outcome) → outcomeOf x y brings ≡ w → openOf x y r (inputs state block) m ≡ leftBy w x y r (resultBy (sortOf m) (decode x) m r)
+  unfolding openOf
+  opened-as w e = rw e refl
+
+  open-refused : (why : Refusal) → outcomeOf x y brings ≡ refused (refusalNumber why) → left (openSaid (o.Refused why)) r x y ≡ openOf x y r (inputs state block) m
+  unfolding openSaid leftBy
+  open-refused why e = sym (opened-as (refused (refusalNumber why)) e)
+
+  said-so :
+      (why : Refusal) {v : OpenAnswer} {w u : ProcResult} → (v ≡ o.Refused why) × (w ≡ u) → u ≡ r → outcomeOf x y brings ≡ refused (refusalNumber why) →
+      left (openSaid v) w x y ≡ openOf x y r (inputs state block) m
+  said-so why n h e = rw (n .0, n .1, h) (open-refused why e)
+
+  module _ (k : MessageSort) (sorted : asSort k ≡ sortOf m) where
+    put-here : firstNo (messageQuestions (decode x) (keyboardAt block state) m (asSort k)) ≡ firstNo (sessionQuestions (decode x) brings)
+    unfolding sessionQuestions keyboardOf
+    put-here = ap (λ (s : Sort). firstNo (messageQuestions (decode x) (keyboardAt block state) m s)) sorted
+
+    done-here : messageEffect (decode x) (keyboardAt block state) m (asSort k) ≡ effectOf (decode x) brings
+    unfolding keyboardOf
+    done-here = ap (messageEffect (decode x) (keyboardAt block state) m) sorted ∙ sym (effect-brought (decode x) (inputs state block) m)
+
+  module _ {q : Asked} (early : asNo q ≡ firstNo (firstFour x y state block)) where
+    pub open-early :
+        (why : Refusal) → q ≡ a.Failed why → {v : OpenAnswer} {w u : ProcResult} → (v ≡ o.Refused why) × (w ≡ u) → u ≡ r →
+        left (openSaid v) w x y ≡ openOf x y r (inputs state block) m
+    unfolding asNo
+    open-early why e n h = said-so why n h (outcome-early x y brings (refusalNumber why) (rw e at early))
+
+    module _ (passed : q ≡ a.Passed) (k : MessageSort) (sorted : asSort k ≡ sortOf m) {p : Asked} (late : asNo p ≡ firstNo (messageQuestions (decode x) (keyboardAt block state) m (asSort k))) where
+      pub open-late :
+          (why : Refusal) → p ≡ a.Failed why → {v : OpenAnswer} {w u : ProcResult} → (v ≡ o.Refused why) × (w ≡ u) → u ≡ r →
+          left (openSaid v) w x y ≡ openOf x y r (inputs state block) m
+      unfolding asNo
+      open-late why e n h =
+          said-so why n h
+          (outcome-late x y brings (four-none x y state block early passed) (refusalNumber why) ((rw e at late) ∙ put-here k sorted))
+
+      pub open-passed :
+          p ≡ a.Passed → (after : ProcResult) {v b : OpenAnswer} {w c : ProcResult} {z u : List ℕ} → after ≡ resultBy (asSort k) (decode x) m r →
+          Gives (messageEffect (decode x) (keyboardAt block state) m (asSort k)) b z u → (v ≡ b) × (w ≡ c) → c ≡ after →
+          left (openSaid v) w z u ≡ openOf x y r (inputs state block) m
+      unfolding asNo leftBy
+      open-passed e after h g n i =
+          let d = done-here k sorted in
+          same-left
+          (ap openSaid (n .0) ∙ g .said ∙ ap (λ (f : Effect). saidToken (f .token)) d)
+          (n .1 ∙ i ∙ h ∙ ap (λ (s : Sort). resultBy s (decode x) m r) sorted)
+          (g .session ∙ ap (λ (f : Effect). encode (f .after)) d)
+          (g .answers ∙ ap (λ (f : Effect). encodeAnswer (f .events)) d)
+          ∙ sym (opened-as _ (outcome-passed x y brings (four-none x y state block early passed) ((rw e at late) ∙ put-here k sorted)))
+
+-- a finish opens no message
+resolved-token : (v : Bool) (s : Session) (t : ℕ) (e : Option Event) (h : Option Held) → resolved v s t e h .token ≡ none
+unfolding resolved
+resolved-token true s t e h = refl
+resolved-token false s t e h = refl
+
+finish-token : (s : Session) (b : Keyboard) (t : ℕ) (p : Option Message) (w : Option Wait) → finishEffect s b t p w .token ≡ none
+finish-token s b t p none = ap (λ (d : Effect). d .token) (finish-lost s b t p)
+finish-token s b t p (some w) = ap (λ (d : Effect). d .token) (finish-found s b t p w) ∙ resolved-token _ _ _ _ _
+
+-- by a finish
+module _ (x y state block : List ℕ) (r : ProcResult) (t : ℕ) (n : Option Message) where
+  abbrev finishes : Given
+  finishes = finished (inputs state block) t n
+
+  finished-as : (w : Outcome) → outcomeOf x y finishes ≡ w → finishOf x y r (inputs state block) t n ≡ leftBy w x y r r
+  unfolding finishOf
+  finished-as w e = rw e refl
+
+  finish-refused : (why : Refusal) → outcomeOf x y finishes ≡ refused (refusalNumber why) → left (finishSaid (f.Refused why)) r x y ≡ finishOf x y r (inputs state block) t n
+  unfolding finishSaid leftBy
+  finish-refused why e = sym (finished-as (refused (refusalNumber why)) e)
+
+  finish-put : firstNo (finishQuestions (decode x) t) ≡ firstNo (sessionQuestions (decode x) finishes)
+  unfolding sessionQuestions
+  finish-put = refl
+
+  finish-done : finishEffect (decode x) (keyboardAt block state) t n (findWait t (decode x .entries)) ≡ effectOf (decode x) finishes
+  unfolding keyboardOf
+  finish-done = sym (effect-finished (decode x) (inputs state block) t n)
+
+  module _ {q : Asked} (early : asNo q ≡ firstNo (firstFour x y state block)) where
+    pub finish-early : (why : Refusal) → q ≡ a.Failed why → left (finishSaid (f.Refused why)) r x y ≡ finishOf x y r (inputs state block) t n
+    unfolding asNo
+    finish-early why e = finish-refused why (outcome-early x y finishes (refusalNumber why) (rw e at early))
+
+    module _ (passed : q ≡ a.Passed) {p : Asked} (late : asNo p ≡ firstNo (finishQuestions (decode x) t)) where
+      pub finish-late : (why : Refusal) → p ≡ a.Failed why → left (finishSaid (f.Refused why)) r x y ≡ finishOf x y r (inputs state block) t n
+      unfolding asNo
+      finish-late why e =
+          finish-refused why (outcome-late x y finishes (four-none x y state block early passed) (refusalNumber why) ((rw e at late) ∙ finish-put))
+
+      pub finish-passed :
+          p ≡ a.Passed → {z u : List ℕ} →
+          Does (finishedBy (decode x) (keyboardAt block state) t n) z u →
+          left (finishSaid f.Finished) r z u ≡ finishOf x y r (inputs state block) t n
+      unfolding asNo leftBy finishSaid
+      finish-passed e g =
+          let d = finish-done in
+          same-left
+          (ap saidToken (sym (finish-token (decode x) (keyboardAt block state) t n (findWait t (decode x .entries))) ∙ ap (λ (f : Effect). f .token) d))
+          refl
+          (g .session ∙ ap (λ (f : Effect). encode (f .after)) d)
+          (g .answers ∙ ap (λ (f : Effect). encodeAnswer (f .events)) d)
+          ∙ sym (finished-as _ (outcome-passed x y finishes (four-none x y state block early passed) ((rw e at late) ∙ finish-put)))
+
+-- ---- what a callee was given, which is what it is to be given
+
+-- the questions of the sort q
+pub told-asked :
+    (s : Session) (b : Keyboard) (m : Message) (k : MessageSort) (q : MessageSort) {n : Option ℕ} → n ≡ firstNo (messageQuestions s b m (asSort q)) → q ≡ k →
+    n ≡ firstNo (messageQuestions s b m (asSort k))
+told-asked s b m k q h e = rw (← e) h
+
+-- the message of the token u finished with q
+pub told-done :
+    (s : Session) (b : Keyboard) (t : ℕ) (p : Peeked) {u : ℕ} {q : Peeked} {z w : List ℕ} →
+    Does (finishedBy s b u (asPeeked q)) z w → (u ≡ t) × (q ≡ p) → Does (finishedBy s b t (asPeeked p)) z w
+told-done s b t p h e = rw (← e .0, ← e .1) h
+
+-- ---- 5 to 9
+
+pub asked-passes :
+    (s : Session) (b : Keyboard) (m : Message) (k : Sort) {p : Asked} → asNo p ≡ firstNo (messageQuestions s b m k) → p ≡ a.Passed → Passes s b m k
+unfolding asNo messageQuestions
+asked-passes s b m k late e =
+    let z : none ≡ firstNo (messageQuestions s b m k) = rw e at late in
+    let five = first-passed 5 (question5 s k) _ z in
+    let six = first-passed 6 (question6 s k) _ (five .1) in
+    let seven = first-passed 7 (question7 s b k) _ (six .1) in
+    let eight = first-passed 8 (question8 s b k) _ (seven .1) in
+    let nine = first-passed 9 (question9 s m k) _ (eight .1) in
+    record { held = five .0; entries = seven .0; tokens = eight .0; units = nine .0 }

@@ -1,0 +1,2 @@
+mod WaitingEntry
+mod FinishEffect

@@ -1,0 +1,8 @@
+mod FocusAnswers
+mod FocusQueued
+mod MessageOpened
+mod CharacterOpened
+mod AnsweredWhole
+mod RoomPassed
+mod ResultBySort
+mod EffectBySort

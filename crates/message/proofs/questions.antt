@@ -1,0 +1,2 @@
+mod QuestionLadder
+mod AsksBySort

@@ -1,2 +1,0 @@
-mod Forced
-mod Info

@@ -1,0 +1,3 @@
+mod EventOfEntry
+mod Draining
+mod Resolving

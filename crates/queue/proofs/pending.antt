@@ -1,0 +1,3 @@
+mod NewEntry
+mod EntryLoops
+mod EntryOfToken

@@ -1,0 +1,51 @@
+// The answer area: the number of the events that a call hands out, the events one behind the other, zeros behind. docs/AREAS.md has the
+// offsets.
+ghost use mathlib.Core.Bool.{true};
+ghost use mathlib.Core.List.{[], _∷_};
+ghost use mathlib.Core.Path.{_≡_};
+ghost use Prim.Native.Nat.{_+_, _*_, _≤_, _<_};
+ghost use lib.ListN.{length};
+ghost use Rattle.area.specs.Bytes.{le};
+ghost use Rattle.area.specs.Splice.{splice};
+ghost use Rattle.area.specs.Zero.{zeroFrom};
+ghost use Rattle.session.specs.Area.{event, encodeAnswer};
+ghost use Rattle.session.specs.Limits.{AREA, ENTRIES-MOST, ANSWER-EVENTS-AT, ANSWER-EVENT-SIZE};
+ghost use Rattle.session.specs.Session.{eventFits};
+ghost use Rattle.session.specs.Types.{asEvent, EventLens};
+use session::ANSWER_EVENT_SIZE;
+use session::ANSWER_EVENTS_AT;
+use session::KeyEvent;
+
+// Event i, counted from 0.
+pub fn put_event_at(answers: &mut [u8], i: usize, e: KeyEvent)
+    requires { ⌜ (length (now answers) ≡ AREA) × (i < ENTRIES-MOST) × EventLens e ⌝ }
+    ensures { λ _. ⌜ now (answers .exit) ≡ splice (ANSWER-EVENTS-AT + ANSWER-EVENT-SIZE * i) (event .put (asEvent e)) (now (answers .entry)) ⌝ }
+{
+    record::write::put_event(answers, ANSWER_EVENTS_AT + ANSWER_EVENT_SIZE * i, e);
+}
+
+// The number of events, and zeros behind the last.
+pub fn close(answers: &mut [u8], n: usize)
+    requires { ⌜ (length (now answers) ≡ AREA) × (n ≤ ENTRIES-MOST) ⌝ }
+    ensures { λ _. ⌜ now (answers .exit) ≡ zeroFrom (ANSWER-EVENTS-AT + ANSWER-EVENT-SIZE * n) (splice 0 (le 2 n) (now (answers .entry))) ⌝ }
+{
+    area::put_u16(answers, 0, n as u16);
+    area::span::fill_zero(answers, ANSWER_EVENTS_AT + ANSWER_EVENT_SIZE * n);
+}
+
+// A call that hands out nothing.
+pub fn no_events(answers: &mut [u8])
+    requires { ⌜ length (now answers) ≡ AREA ⌝ }
+    ensures { λ _. ⌜ now (answers .exit) ≡ encodeAnswer [] ⌝ }
+{
+    close(answers, 0);
+}
+
+// A call that hands out one event.
+pub fn one_event(answers: &mut [u8], e: KeyEvent)
+    requires { ⌜ (length (now answers) ≡ AREA) × EventLens e × (eventFits (asEvent e) ≡ true) ⌝ }
+    ensures { λ _. ⌜ now (answers .exit) ≡ encodeAnswer (asEvent e ∷ []) ⌝ }
+{
+    put_event_at(answers, 0, e);
+    close(answers, 1);
+}

@@ -1,0 +1,182 @@
+// The entries of tao's PendingEventQueue in a session's area: added, found by their token, completed, dropped.
+ghost use mathlib.Core.Bool.{true};
+ghost use mathlib.Core.Option.{some, none};
+ghost use mathlib.Core.Path.{_≡_};
+ghost use Prim.Native.Nat.{_+_, _*_, _≤_, _<_};
+ghost use lib.ListN.{length};
+ghost use Rattle.area.specs.Bytes.{le};
+ghost use Rattle.area.specs.Splice.{splice};
+ghost use Rattle.session.specs.Area.{encode, decode};
+ghost use Rattle.session.specs.Calls.{opening};
+ghost use Rattle.session.specs.Limits.{ENTRIES-MOST, TOKENS-MOST, COUNT-AT, ENTRIES-AT, ENTRY-SIZE};
+ghost use Rattle.session.specs.Questions.{lastToken, isToken};
+ghost use Rattle.session.specs.Session.{press, release, character, infoFits, eventFits, openCount};
+ghost use Rattle.session.specs.Types.{asInfo, InfoLens, asEvent, EventLens};
+ghost use Rattle.queue.specs.Changed.{withEvent, withResolved, emptied};
+ghost use Rattle.queue.specs.Place.{placeOfToken, StandsAt};
+ghost use Rattle.queue.specs.Room.{HasRoom, IsArea};
+use lookup::keyboard::KeyLParam;
+use record::read::Header;
+use session::COUNT_AT;
+use session::ENTRIES_AT;
+use session::ENTRY_SIZE;
+use session::KeyEvent;
+use session::PartialKeyEventInfo;
+use session::PendingMessageToken;
+
+// ---- behind the last entry
+
+// Where the entry behind the last one goes.
+fn next_place(h: Header) -> usize
+    requires { ⌜ h .count < ENTRIES-MOST ⌝ }
+    ensures { λ r. ⌜ r ≡ ENTRIES-AT + ENTRY-SIZE * h .count ⌝ }
+{
+    ENTRIES_AT + ENTRY_SIZE * h.count as usize
+}
+
+// One entry more, and one token more handed out.
+fn count_one(session: &mut [u8], h: Header)
+    requires { ⌜ (ENTRIES-AT ≤ length (now session)) × (h .count < ENTRIES-MOST) × (h .handed < TOKENS-MOST) ⌝ }
+    ensures { λ _. ⌜ now (session .exit) ≡ splice 0 (le 2 (h .handed + 1)) (splice COUNT-AT (le 2 (h .count + 1)) (now (session .entry))) ⌝ }
+{
+    area::put_u16(session, COUNT_AT, h.count + 1);
+    area::put_u16(session, 0, h.handed + 1);
+}
+
+// ---- open messages added (add_pending)
+
+// An open press behind the last entry.
+pub fn add_press(session: &mut [u8], vkey: u16, l: KeyLParam) -> PendingMessageToken
+    requires { ⌜ HasRoom (now session) ⌝ }
+    ensures { λ r. ⌜ (r .0 ≡ decode (now (session .entry)) .handed) × (now (session .exit) ≡ encode (opening (decode (now (session .entry))) (press vkey l) (decode (now (session .entry)) .held) .after)) ⌝ }
+{
+    let h = record::read::header_at(session);
+    let token = PendingMessageToken(h.handed as u32);
+    record::write::put_press(session, next_place(h), token, vkey, l);
+    count_one(session, h);
+    token
+}
+
+// An open release behind the last entry.
+pub fn add_release(session: &mut [u8], n: PartialKeyEventInfo) -> PendingMessageToken
+    requires { ⌜ HasRoom (now session) × InfoLens n × (infoFits (asInfo n) ≡ true) ⌝ }
+    ensures { λ r. ⌜ (r .0 ≡ decode (now (session .entry)) .handed) × (now (session .exit) ≡ encode (opening (decode (now (session .entry))) (release (asInfo n)) (decode (now (session .entry)) .held) .after)) ⌝ }
+{
+    let h = record::read::header_at(session);
+    let token = PendingMessageToken(h.handed as u32);
+    record::write::put_release(session, next_place(h), token, n);
+    count_one(session, h);
+    token
+}
+
+// An open character behind the last entry.
+pub fn add_character(session: &mut [u8]) -> PendingMessageToken
+    requires { ⌜ HasRoom (now session) ⌝ }
+    ensures { λ r. ⌜ (r .0 ≡ decode (now (session .entry)) .handed) × (now (session .exit) ≡ encode (opening (decode (now (session .entry))) character (decode (now (session .entry)) .held) .after)) ⌝ }
+{
+    let h = record::read::header_at(session);
+    let token = PendingMessageToken(h.handed as u32);
+    record::write::put_character(session, next_place(h), token);
+    count_one(session, h);
+    token
+}
+
+// ---- a completed event added (complete_multi)
+
+// A completed event behind the last entry, under a token of its own that nobody is given.
+pub fn add_complete(session: &mut [u8], e: KeyEvent)
+    requires { ⌜ HasRoom (now session) × EventLens e × (eventFits (asEvent e) ≡ true) ⌝ }
+    ensures { λ _. ⌜ now (session .exit) ≡ encode (withEvent (decode (now (session .entry))) (asEvent e)) ⌝ }
+{
+    let h = record::read::header_at(session);
+    let token = PendingMessageToken(h.handed as u32);
+    record::write::put_complete(session, next_place(h), token, e);
+    count_one(session, h);
+}
+
+// ---- open messages found and counted
+
+// Where the first entry that carries the token stands; behind the last where none does.
+pub fn find(session: &[u8], token: PendingMessageToken) -> usize
+    requires { ⌜ IsArea (now session) ⌝ }
+    ensures { λ r. ⌜ r ≡ placeOfToken (token .0) (decode (now (session .entry)) .entries) ⌝ }
+{
+    let h = record::read::header_at(session);
+    let n = h.count as usize;
+    let wanted = token.0 as usize;
+    let mut i: usize = 0;
+    let place = loop {
+        if n <= i {
+            break i; // behind the last
+        }
+        let t = record::read::token_at(&session[ENTRIES_AT + ENTRY_SIZE * i..]);
+        if t.0 as usize == wanted {
+            break i; // carried here
+        }
+        i += 1;
+    };
+    place
+}
+
+// Whether the token is that of the latest open message.
+pub fn is_latest(session: &[u8], token: PendingMessageToken) -> bool
+    requires { ⌜ IsArea (now session) ⌝ }
+    ensures { λ r. ⌜ r ≡ isToken (token .0) (lastToken (decode (now (session .entry)) .entries)) ⌝ }
+{
+    let h = record::read::header_at(session);
+    let n = h.count as usize;
+    let mut i: usize = 0;
+    let mut latest = false;
+    while i < n {
+        if session[ENTRIES_AT + ENTRY_SIZE * i + 2] == 0 {
+            latest = token.0 == area::get_u16(session, ENTRIES_AT + ENTRY_SIZE * i) as u32;
+        }
+        i += 1;
+    }
+    latest
+}
+
+// How many messages are open.
+pub fn open_count(session: &[u8]) -> usize
+    requires { ⌜ IsArea (now session) ⌝ }
+    ensures { λ r. ⌜ r ≡ openCount (decode (now (session .entry)) .entries) ⌝ }
+{
+    let h = record::read::header_at(session);
+    record::read::open_count(&session[ENTRIES_AT..], h.count as usize)
+}
+
+// ---- an entry completed or dropped; the queue emptied
+
+// The entry at a place, which carries the token, completed with its event.
+pub(crate) fn complete(session: &mut [u8], place: usize, token: PendingMessageToken, e: KeyEvent)
+    requires { ⌜ StandsAt (now session) (token .0) place × EventLens e × (eventFits (asEvent e) ≡ true) ⌝ }
+    ensures { λ _. ⌜ now (session .exit) ≡ encode (withResolved (decode (now (session .entry))) (token .0) (some (asEvent e))) ⌝ }
+{
+    record::write::put_complete(session, ENTRIES_AT + ENTRY_SIZE * place, token, e);
+}
+
+// The entry at a place, which carries the token, dropped.
+pub(crate) fn remove(session: &mut [u8], place: usize, token: PendingMessageToken)
+    requires { ⌜ StandsAt (now session) (token .0) place ⌝ }
+    ensures { λ _. ⌜ now (session .exit) ≡ encode (withResolved (decode (now (session .entry))) (token .0) none) ⌝ }
+{
+    let h = record::read::header_at(session);
+    let last = h.count as usize - 1;
+    area::span::move_down(
+        session,
+        ENTRIES_AT + ENTRY_SIZE * place,
+        ENTRY_SIZE,
+        ENTRY_SIZE * (last - place),
+    );
+    area::span::put_zeros(session, ENTRIES_AT + ENTRY_SIZE * last, ENTRY_SIZE);
+    area::put_u16(session, COUNT_AT, h.count - 1);
+}
+
+// No entry, and no token handed out.
+pub(crate) fn restart(session: &mut [u8])
+    requires { ⌜ IsArea (now session) ⌝ }
+    ensures { λ _. ⌜ now (session .exit) ≡ encode (emptied (decode (now (session .entry)))) ⌝ }
+{
+    area::span::fill_zero(session, COUNT_AT);
+    area::put_u16(session, 0, 0);
+}

@@ -1,0 +1,4 @@
+pub mod Entries
+pub mod Places
+pub mod Walk
+mod Taken

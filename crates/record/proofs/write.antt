@@ -1,0 +1,9 @@
+mod Parts
+mod Texts
+mod Keys
+mod Events
+mod Records
+mod Units
+mod Held
+mod FreshArea
+mod Entries

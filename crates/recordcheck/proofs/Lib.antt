@@ -1,5 +1,0 @@
-pub mod Tests
-mod Texts
-pub mod Keys
-pub mod Records
-mod Waits

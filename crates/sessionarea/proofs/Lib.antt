@@ -1,4 +1,0 @@
-pub mod Kept
-pub mod Sessions
-pub mod Areas
-pub mod HeldPress

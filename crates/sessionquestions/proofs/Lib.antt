@@ -1,2 +1,0 @@
-mod Sorts
-mod Later

@@ -1,2 +1,0 @@
-mod Copy
-mod Ways

@@ -1,2 +1,0 @@
-pub mod Texts
-mod Keys
