@@ -1,3 +1,4 @@
+/* SPDX-License-Identifier: Apache-2.0 */
 /* Mahjonglarch: Windows key messages to key events.
  *
  * The keyboard part of the Rust crate tao 0.37.2 (its Windows side), written again in Rattle and proved. It calls nothing of Windows: the
@@ -10,20 +11,33 @@
  * Message kinds, virtual keys, scan codes and characters are written in hexadecimal; sizes, counts and refusals in decimal.
  *
  *
- * A message, from its arrival to its events
+ * The host's duties
+ *
+ *  1. Before the first call, compare mahjonglarch_interface() with MAHJONGLARCH_INTERFACE.
+ *  2. Test both answers. Another number than 0 is a refusal: nothing was changed, and `answers` still has the events of an earlier call.
+ *  3. Take the events of each answered call, and only of those, before the answer area is lent again. An event is handed out once.
+ *  4. Read the key state anew for each half of a message (for kind 7 the asynchronous one, below), and bring the block of the layout in force.
+ *  5. Finish the latest message first, with what PeekMessageW showed behind it; where it showed nothing, `peeked` is 0.
+ *  6. Take no text of a synthetic press: it was typed before, and it can come out before the typed one.
+ *  7. Do with the message result what `result` says.
+ *  8. Call TranslateMessage in the message loop, or no character ever comes.
+ *  9. Overwrite both areas in the end.
+ *
+ *
+ * A message, from its arrival to its events. examples/c/window/window.c is a window procedure whole
  *
  *     uint32_t token, result, no;
  *     no = mahjonglarch_open(session, 65536, answers, 65536, state, 256, block, block_len, kind, wparam, lparam, &token, &result);
- *     if (no != 0) ..                     refused: say so; nothing was changed, and `answers` still has the events of an earlier call
- *     ..                                  take the events of `answers`, and do with the message result what `result` says
+ *     if (no != 0) ..                     refused: the message took no part in the session
+ *     ..                                  take the events of `answers`
  *     if (token != MAHJONGLARCH_NONE) {   the message is open until it is finished
  *         peeked = PeekMessageW(&next, window, WM_KEYFIRST, WM_KEYLAST, PM_NOREMOVE);     this can enter the window procedure again
- *         no = mahjonglarch_finish(session, 65536, answers, 65536, state, 256, block, block_len, token, peeked != 0,
- *                                  next.message, next.wParam, next.lParam);     with the key state and layout as they are by now
+ *         no = mahjonglarch_finish(session, 65536, answers, 65536, state, 256, block, block_len, token, peeked != 0, peeked ? next.message : 0,
+ *                                  peeked ? next.wParam : 0, peeked ? next.lParam : 0);    with the key state and layout as they are by now
+ *         if (no != 0) ..                 refused: the message is still open. Bring the finish again with the same token
  *         ..                              take the events of `answers`
  *     }
- *
- * Every call that is answered writes its events over those in `answers`: take them before the next one. An event is handed out once.
+ *     ..                                  do with the message result what `result` says
  *
  * Nesting. While a host peeks, Windows can send it further messages. Each is brought to `open` with the same session area, peeks and is
  * finished before the peek around it returns, so the message opened last is finished first; another order is refusal 10. Give a nested call
@@ -34,7 +48,7 @@
  * Memory
  *
  * A slice is a pointer and a number of elements. The pointer is never NULL and is aligned for its elements, also where the number is 0 (any
- * aligned address that is not NULL will do then), and that many elements are there. Memory that a call may write (`area`, `session`,
+ * aligned address that is not NULL will do then), and that many elements are there. Memory that a call may write (`session`,
  * `answers`, `token`, `result`, `fields`, `text`) overlaps nothing else that the same call is given; `state` and `block` are only read.
  * These are the only conditions. Every length and every content has an answer: a length or content that is not in order is refused.
  *
@@ -55,6 +69,9 @@
 #ifdef __cplusplus
 extern "C" {
 #endif
+
+/* The number of this interface. It rises with each change of a signature, of a number's meaning or of an area. */
+#define MAHJONGLARCH_INTERFACE 1u
 
 /* ---- Sizes and limits */
 
@@ -81,10 +98,24 @@ extern "C" {
  * Layout block: the maps of the keyboard layout, as docs/AREAS.md lays them out byte by byte. crates/station/data/us.block is one.
  */
 
-/* ---- Refusals: what a call answers that fails a question, the number of the first it fails
+/* ---- Refusals: what a call answers that fails a question, the number of the first it fails (docs/SCOPE.md, 6)
  *
  * A refused call changes no byte of either area. 1 to 4 are put to `open` and `finish`, 5 to 9 to `open`, 10 to `finish`. A message that is ignored
- * (below) passes 5 to 9, and question 6 is put only to messages that open. */
+ * (below) passes 5 to 9, and question 6 is put only to messages that open.
+ *
+ * A refused open took no part in the session: its message is not processed. A refused finish leaves its message open, and all that arrives
+ * behind it waits; the same token, brought again with inputs in order, is answered, and everything comes out in order.
+ *
+ *     number   bring the call again?                                          stop the station?
+ *     1, 2     yes, with the right sizes                                      if it can't be done before the next message
+ *     3        yes, with the layout read anew                                 if the block stays so
+ *     4        no: something else wrote into the area                         at once: overwrite both areas, begin afresh, reject the card
+ *     5        no: nothing typed is lost by it                                no
+ *     6        yes, once a message has been finished                          if it can't be brought again: its digit is lost
+ *     7, 8     yes, once the open messages are finished, the latest first     if it can't be brought again: its digit is lost
+ *     9        no: the character is not added to the press                    reject the card: its text is not whole
+ *     10       yes, once the later messages are finished                      if the host no longer knows its tokens
+ */
 enum mahjonglarch_refusal {
     MAHJONGLARCH_ANSWERED = 0,               /* no refusal */
     MAHJONGLARCH_REFUSED_AREA_SIZE = 1,      /* are both areas exactly 65,536 bytes? */
@@ -132,7 +163,7 @@ enum mahjonglarch_field {
     MAHJONGLARCH_FIELD_LOGICAL_THIRD = 5,
     MAHJONGLARCH_FIELD_LOCATION = 6,                      /* enum mahjonglarch_location */
     MAHJONGLARCH_FIELD_STATE = 7,                         /* enum mahjonglarch_state */
-    MAHJONGLARCH_FIELD_REPEAT = 8,                        /* 1 where the key was down before, else 0 */
+    MAHJONGLARCH_FIELD_REPEAT = 8,                        /* 1 where bits 30 and 31 of lParam differ, else 0: for a press, that the key was down before */
     MAHJONGLARCH_FIELD_SYNTHETIC = 9,                     /* 1 where a focus change wrote the event, else 0: such a press was not typed now */
     MAHJONGLARCH_FIELD_KEY_WITHOUT_MODIFIERS = 10,        /* as the logical key */
     MAHJONGLARCH_FIELD_KEY_WITHOUT_MODIFIERS_SECOND = 11,
@@ -188,8 +219,11 @@ enum mahjonglarch_text {
 
 /* ---- Functions. Each has an answer for every input; `_len` is a slice's number of elements. */
 
+/* The number of the library's interface: MAHJONGLARCH_INTERFACE of the header that belongs to it. Compare the two before the first call. */
+uint32_t mahjonglarch_interface(void);
+
 /* Makes the area that of a fresh session: 0. An area of another size than 65,536 bytes is left as it is: 1. */
-uint32_t mahjonglarch_fresh(uint8_t *area, size_t area_len);
+uint32_t mahjonglarch_fresh(uint8_t *session, size_t session_len);
 
 /* Takes a message: 0, or the refusal's number. `token` becomes the token of the message that was opened, or MAHJONGLARCH_NONE where none was
  * (answered whole, ignored, or refused). `result` becomes what is to become of the message result (MAHJONGLARCH_RESULT_..; kept, where the

@@ -1,3 +1,4 @@
+/* SPDX-License-Identifier: Apache-2.0 AND W3C-20150513 */
 /* The numbers of KeyCode (MAHJONGLARCH_FIELD_PHYSICAL_KEY) and of Key (the logical key, and the key without modifiers), with their names: tao's,
  * which follow W3C's (NOTICE). Written by tools/key_names.
  *

@@ -1,4 +1,4 @@
-//! Every length around each limit. What is refused, and with which number, is written here by hand from document 01.
+//! Every length around each limit. What is refused, and with which number, is written here by hand from docs/SCOPE.md, 6.
 use crate::{
   layouts::{Layout, Layouts},
   library::AREA,

@@ -13,7 +13,7 @@
  *
  * Each call is printed with its answer, and each event that it hands out on a line of its own. `tools/hosts` builds this program and runs it on
  * the file `messages` beside it; `expected` has what it is to print, which is not this program's own word: tools/hosts says where it is from.
- * Exit status: 0, also where calls were refused; 1 where the block can't be read; 2 at a line of another form. */
+ * Exit status: 0, also where calls were refused; 1 where the block can't be read or a card has no room; 2 at a line of another form. */
 #include <stdio.h>
 #include <stdlib.h>
 #include <string.h>
@@ -77,10 +77,20 @@ static void show_text(const uint8_t *text, uint32_t len) {
     putchar('"');
 }
 
-/* A text of an event. The library never says that there is none here: the event was just read. */
+/* What can't be, or can't be kept: nothing more is taken, so that no digit goes missing unseen. */
+static void stop(const char *why, uint32_t event) {
+    fprintf(stderr, "event %u: %s\n", (unsigned)event, why);
+    clear(session, sizeof session);
+    clear(answers, sizeof answers);
+    clear(card, sizeof card);
+    exit(1);
+}
+
+/* A text of an event, of length 0 where it has none. */
 static uint32_t text_of(uint32_t event, uint32_t which, uint8_t text[MAHJONGLARCH_TEXT_MOST]) {
     uint32_t len = mahjonglarch_event_text(answers, sizeof answers, event, which, text, MAHJONGLARCH_TEXT_MOST);
-    return len == MAHJONGLARCH_NONE ? 0 : len;
+    if (len == MAHJONGLARCH_NONE) stop("its text can't be read", event); /* never: the event was just read */
+    return len;
 }
 
 static void show_text_of(uint32_t event, uint32_t which) {
@@ -122,10 +132,9 @@ static void take_text(uint32_t i, const struct mahjonglarch_event_fields *e) {
     uint32_t len;
     if (e->state != MAHJONGLARCH_STATE_PRESSED || e->synthetic) return;
     len = text_of(i, MAHJONGLARCH_TEXT_OF_EVENT, text);
-    if (len <= sizeof card - card_len) {
-        memcpy(card + card_len, text, len);
-        card_len += len;
-    }
+    if (len > sizeof card - card_len) stop("the card has no room for its text", i);
+    memcpy(card + card_len, text, len);
+    card_len += len;
     clear(text, sizeof text);
 }
 
@@ -133,10 +142,7 @@ static void take_events(void) {
     uint32_t count = mahjonglarch_event_count(answers, sizeof answers);
     for (uint32_t i = 0; i < count; i++) {
         struct mahjonglarch_event_fields event;
-        if (mahjonglarch_event_read(answers, sizeof answers, i, &event) != 0) {
-            fprintf(stderr, "event %u is not one\n", (unsigned)i); /* the library's answers always are */
-            exit(1);
-        }
+        if (mahjonglarch_event_read(answers, sizeof answers, i, &event) != 0) stop("it can't be read", i); /* never */
         show_event(i, &event);
         take_text(i, &event);
     }
@@ -291,6 +297,10 @@ int main(int argc, char **argv) {
     }
     if (!read_block(argv[1])) {
         perror(argv[1]);
+        return 1;
+    }
+    if (mahjonglarch_interface() != MAHJONGLARCH_INTERFACE) {
+        fprintf(stderr, "the library has another interface\n");
         return 1;
     }
     if (mahjonglarch_fresh(session, sizeof session) != 0) return 1;

@@ -54,9 +54,10 @@ impl fmt::Display for Text {
   }
 }
 
+/// Says how long the text is and not what it says: what was typed belongs into no log. `Display` and [`Text::as_str`] have it.
 impl fmt::Debug for Text {
   fn fmt(&self, f: &mut fmt::Formatter<'_>) -> fmt::Result {
-    fmt::Debug::fmt(self.as_str(), f)
+    write!(f, "Text({} bytes)", self.len)
   }
 }
 
@@ -83,7 +84,7 @@ pub enum ElementState {
 }
 
 /// tao's `KeyEvent`, with the two fields of `KeyEventExtra` and whether it is synthetic.
-#[derive(Clone, Copy, PartialEq, Eq, Hash, Debug)]
+#[derive(Clone, Copy, PartialEq, Eq, Hash)]
 pub struct Event {
   /// The key on the keyboard.
   pub physical_key: PhysicalKey,
@@ -95,7 +96,8 @@ pub struct Event {
   pub location: KeyLocation,
   /// Pressed or released.
   pub state: ElementState,
-  /// Whether the key was down before.
+  /// Whether bits 30 and 31 of the message's lParam differ, as tao has it: for a press, that the key was down before; an ordinary release,
+  /// which has both bits, is no repeat. In a synthetic event it is false.
   pub repeat: bool,
   /// Whether a focus change wrote the event: such a press was not typed now, so its text is to be taken from no card.
   pub synthetic: bool,
@@ -144,7 +146,18 @@ fn yes(field: u32) -> Option<bool> {
   }
 }
 
-/// In one line, as crates/station prints it.
+/// Says neither key nor text: what was typed belongs into no log. `Display` has all of it.
+impl fmt::Debug for Event {
+  fn fmt(&self, f: &mut fmt::Formatter<'_>) -> fmt::Result {
+    f.debug_struct("Event")
+      .field("state", &self.state)
+      .field("repeat", &self.repeat)
+      .field("synthetic", &self.synthetic)
+      .finish_non_exhaustive()
+  }
+}
+
+/// In one line with all that was typed, as crates/station prints it.
 impl fmt::Display for Event {
   fn fmt(&self, f: &mut fmt::Formatter<'_>) -> fmt::Result {
     let location = match self.location {

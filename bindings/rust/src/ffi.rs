@@ -6,6 +6,7 @@ use std::sync::atomic::{compiler_fence, Ordering};
 
 mod c {
   extern "C" {
+    pub fn mahjonglarch_interface() -> u32;
     pub fn mahjonglarch_fresh(area: *mut u8, area_len: usize) -> u32;
     pub fn mahjonglarch_open(
       session: *mut u8,
@@ -54,6 +55,11 @@ mod c {
       text_len: usize,
     ) -> u32;
   }
+}
+
+/// The number of the library's interface, which is to be [`INTERFACE`](super::raw::INTERFACE).
+pub fn interface() -> u32 {
+  unsafe { c::mahjonglarch_interface() }
 }
 
 /// Makes the area that of a fresh session: 0. An area of another size is left as it is: 1.

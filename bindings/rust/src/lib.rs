@@ -32,6 +32,17 @@
 //! # Ok::<(), Box<dyn std::error::Error>>(())
 //! ```
 //!
+//! The host's duties. Nothing here can see whether they are done, and a digit that is not brought, or whose event is not taken, is lost:
+//!
+//! - heed both answers, and bring a refused finish again with the token that it gives back ([`Refusal`] says what to do at each);
+//! - take the events of each answered call before the answer area is lent again (the borrow sees to that), and of a refused call none;
+//! - read the key state anew for each half of a message, for [`WM_SETFOCUS`] what `GetAsyncKeyState` says (bit 7) with the locks of `GetKeyState`
+//!   (bit 0), and bring the block of the layout in force;
+//! - finish the latest message first, and hold no borrow of session or answers across the peek, which can enter the window procedure again
+//!   (`examples/shift.rs` has one that does not);
+//! - take no text of a synthetic press: it was typed before, and it can come out before the typed one;
+//! - do with the message result what [`Opened::result`] says, and call `TranslateMessage` in the message loop.
+//!
 //! Memory: a [`Session`] and an [`Answers`] have one allocation each, made once, and no call allocates. Both are overwritten with zeros when
 //! they are dropped. An [`Event`] is the host's own copy, and what a call leaves on the machine's stack is not cleared.
 //!

@@ -1,6 +1,9 @@
 //! The C functions on slices, by their numbers: for callers that bring their own areas. None allocates, and each has an answer for every
 //! input. `include/mahjonglarch.h` of the repository documents them.
-pub use crate::ffi::{event, event_count, event_text, finish, fresh, open};
+pub use crate::ffi::{event, event_count, event_text, finish, fresh, interface, open};
+
+/// The number of the interface that this crate was written for. Compare it with [`interface`] before the first call; [`crate::Session::new`] does.
+pub const INTERFACE: u32 = 1;
 
 /// 4,294,967,295. As a token: none was opened. As a count or a length: there is none.
 pub const NONE: u32 = u32::MAX;
@@ -18,7 +21,7 @@ pub mod field {
   pub const LOCATION: usize = 6;
   /// 0 pressed, 1 released.
   pub const STATE: usize = 7;
-  /// 1 where the key was down before.
+  /// 1 where bits 30 and 31 of the message's lParam differ, else 0: for a press, that the key was down before.
   pub const REPEAT: usize = 8;
   /// 1 where a focus change wrote the event.
   pub const SYNTHETIC: usize = 9;

@@ -3,29 +3,33 @@ use crate::Token;
 use std::{error::Error, fmt};
 
 /// The first question that a call failed. A refused call changes no byte of either area.
+///
+/// A refused open took no part in the session: its message is not processed. A refused finish leaves its message open; with the refusals 1 to 3
+/// the same token is answered once the inputs are in order.
 #[derive(Clone, Copy, PartialEq, Eq, Hash, Debug)]
 #[non_exhaustive]
 #[repr(u32)]
 pub enum Refusal {
-  /// Are both areas exactly 65,536 bytes?
+  /// Are both areas exactly 65,536 bytes? Bring the call again with areas of that size.
   AreaSize = 1,
-  /// Are there 256 key-state bytes?
+  /// Are there 256 key-state bytes? Bring the call again with as many.
   KeyStateSize = 2,
-  /// Is the block at most 65,536 bytes and laid out as docs/AREAS.md says?
+  /// Is the block at most 65,536 bytes and laid out as docs/AREAS.md says? Read the layout anew and bring the call again; stop the station if the
+  /// block stays so, since everything behind an unfinished message waits.
   Block = 3,
-  /// Is the session area that of a session?
+  /// Is the session area that of a session? Something else wrote into it: stop, begin with a fresh session, reject the card.
   Session = 4,
-  /// For a dead character: is a press held?
+  /// For a dead character: is a press held? Nothing typed is lost; go on.
   NothingHeld = 5,
-  /// To open: are fewer than 8 open?
+  /// To open: are fewer than 8 open? Bring the message again once one has been finished, or reject the card: its digit is lost.
   TooManyOpen = 6,
-  /// Do the new entries fit within 256?
+  /// Do the new entries fit within 256? An early message was never finished: finish the open ones, the latest first, and bring the message again.
   QueueFull = 7,
-  /// Do the tokens since the queue was empty stay within 4,096?
+  /// Do the tokens since the queue was empty stay within 4,096? As [`Refusal::QueueFull`].
   TokensUsed = 8,
-  /// Do the held units stay within 16?
+  /// Do the held units stay within 16? The character is not added to its press: reject the card.
   TooManyUnits = 9,
-  /// To finish: is the token that of the latest open message?
+  /// To finish: is the token that of the latest open message? Finish the later messages first.
   NotLatest = 10,
 }
 

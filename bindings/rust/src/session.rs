@@ -41,14 +41,20 @@ pub struct Session {
 
 impl Session {
   /// A fresh session.
+  ///
+  /// # Panics
+  ///
+  /// Where the library that is linked has another interface than the one that this crate was written for.
   pub fn new() -> Session {
+    assert_eq!(raw::interface(), raw::INTERFACE, "the linked library has another interface");
     let mut area = Area::zeros();
     let number = raw::fresh(area.bytes_mut());
     assert_eq!(number, 0, "an area has its size");
     Session { area }
   }
 
-  /// Takes a message. `answers` takes the events, which the answer lends. A refused call changes neither area.
+  /// Takes a message. `answers` takes the events, which the answer lends. A refused call changes neither area: the message took no part in the
+  /// session and is not processed. [`Refusal`] says what to do then.
   pub fn open<'a>(
     &mut self,
     answers: &'a mut Answers,
@@ -75,8 +81,9 @@ impl Session {
     })
   }
 
-  /// Finishes the latest open message with what was peeked. `answers` takes the events, which are lent. A refused call changes neither area,
-  /// and the token comes back.
+  /// Finishes the latest open message with what was peeked. `answers` takes the events, which are lent. A refused call changes neither area:
+  /// the message is still open, all that arrived behind it waits, and the token comes back. Brought again with inputs in order it is answered,
+  /// and everything comes out in order.
   pub fn finish<'a>(
     &mut self,
     answers: &'a mut Answers,

@@ -109,7 +109,7 @@ fn dead_key_and_the_letter_that_it_joins() {
   assert!(host.session.is_fresh());
 }
 
-/// Document 01: 104 with the whole wParam 73 does nothing and `result` stays, 10073 is an ordinary press; a press by 104 has the default
+/// docs/SCOPE.md, 3.2, 3.3, 3.9: 104 with the whole wParam 73 does nothing and `result` stays, 10073 is an ordinary press; a press by 104 has the default
 /// procedure's result; an unhandled kind and a character with no press held are ignored.
 #[test]
 fn what_becomes_of_the_message_result() {
@@ -128,7 +128,7 @@ fn what_becomes_of_the_message_result() {
   assert!(host.session.is_fresh());
 }
 
-/// Document 01: D83D DE00 is the bytes F0 9F 98 80, in one event that the last unit completes.
+/// docs/SCOPE.md, 8.1: D83D DE00 is the bytes F0 9F 98 80, in one event that the last unit completes.
 #[test]
 fn a_pair_of_surrogates() {
   let mut host = Host::new();

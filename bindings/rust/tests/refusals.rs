@@ -1,5 +1,5 @@
-//! Document 01's questions: each refusal has its number, and no refused call changes a byte of either area. The numbers and the limits are
-//! document 01's ('The questions each call is put through', 'Values to check').
+//! The questions: each refusal has its number, and no refused call changes a byte of either area. The numbers and the limits are those of
+//! docs/SCOPE.md, 6 and 8.2.
 mod common;
 use common::*;
 use mahjonglarch::*;

@@ -1,6 +1,7 @@
 //! The calls of crates/replay with tao's own answers: some thousands, on three layouts and more. oracle/README.md ('The calls of replay') lays the
 //! file out. Held to tao: the token, the message result, tokens handed out, whether a press is held, the number of entries, and every byte of
-//! the answer area; and each event as this crate reads it, to its bytes (docs/AREAS.md). The numbers of refused calls are document 01's.
+//! the answer area; and each event as this crate reads it, to its bytes (docs/AREAS.md). The numbers of refused calls are those of
+//! docs/SCOPE.md, 6.
 mod common;
 use common::event_bytes;
 use mahjonglarch::*;

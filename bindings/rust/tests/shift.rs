@@ -1,5 +1,5 @@
 //! The whole shift of crates/station, line by line, on areas of the test's own: what is printed is crates/station/stdout, which is tao's
-//! answer to these calls (and, for refused ones, document 01's number).
+//! answer to these calls (and, for refused ones, the number of docs/SCOPE.md, 6).
 mod common;
 use common::*;
 use mahjonglarch::*;

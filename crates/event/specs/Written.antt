@@ -7,9 +7,9 @@ use Rattle.lookup.specs.Block.{mapsOf}
 use Rattle.session.specs.Builder.{Keyboard}
 use Rattle.session.specs.Focus.{written}
 
--- the keyboard of a block and a key state
+-- the keyboard of a key state and a block
 abbrev pub keyboardAt : List ℕ → List ℕ → Keyboard
-keyboardAt block state = record { layout = mapsOf block; keyState = state }
+keyboardAt state block = record { layout = mapsOf block; keyState = state }
 
 -- those of the keys that are written
 unfoldable pub writtenOf : Keyboard → List ℕ → List ℕ

@@ -41,7 +41,7 @@ fn with_unit(h: HeldPress, unit: u16) -> HeldPress
     }
 }
 
-// A held press with the units of a character message added.
+// SCOPE 3.9: a held press with the units of a character message added.
 pub fn with_units(h: HeldPress, wparam: u64) -> HeldPress
     requires { ⌜ h .len + length (charUnits wparam) ≤ UNITS-MOST ⌝ }
     ensures { λ r. ⌜ (asHeld r ≡ withUnits (asHeld h) (charUnits wparam)) × (r .info ≡ h .info) × (r .len ≡ h .len + length (charUnits wparam)) ⌝ }
@@ -74,7 +74,7 @@ pub(crate) fn key_text(k: TextKey) -> Text
     }
 }
 
-// Whether Control counts at the last character: on AltGr layouts only without Alt.
+// SCOPE 3.11: whether Control counts at the last character, on AltGr layouts only without Alt.
 fn control_counts(alt_graph: bool, mods: WindowsModifiers) -> bool
     ensures { λ r. ⌜ r ≡ pick «alt_graph» (mods .control && not (mods .alt)) (mods .control) ⌝ }
 {
@@ -87,10 +87,10 @@ fn control_counts(alt_graph: bool, mods: WindowsModifiers) -> bool
     !mods.alt
 }
 
-// The text of the last character: from the layout where Control counts, else the typed units'.
+// SCOPE 3.11, the text of the last character: from the layout where Control counts, else the typed units'.
 fn last_text(state: &[u8], block: &[u8], h: HeldPress) -> Text
     requires { ⌜ (blockOk (now block) ≡ true) × (h .len ≤ UNITS-MOST) ⌝ }
-    ensures { λ r. ⌜ (asText r ≡ lastText (keyboardAt (now (block .entry)) (now (state .entry))) (asHeld h)) × (r .len ≤ TEXT-MOST) ⌝ }
+    ensures { λ r. ⌜ (asText r ≡ lastText (keyboardAt (now (state .entry)) (now (block .entry))) (asHeld h)) × (r .len ≤ TEXT-MOST) ⌝ }
 {
     let mods = WindowsModifiers::active_modifiers(state);
     let alt_graph = lookup::keyboard_layout::has_alt_graph(block);
@@ -108,7 +108,7 @@ fn last_text(state: &[u8], block: &[u8], h: HeldPress) -> Text
 // What the last character message completes.
 pub fn char_event(state: &[u8], block: &[u8], h: HeldPress) -> KeyEvent
     requires { ⌜ (blockOk (now block) ≡ true) × InfoLens (h .info) × (h .len ≤ UNITS-MOST) ⌝ }
-    ensures { λ r. ⌜ (asEvent r ≡ charEvent (keyboardAt (now (block .entry)) (now (state .entry))) (asHeld h)) × EventLens r ⌝ }
+    ensures { λ r. ⌜ (asEvent r ≡ charEvent (keyboardAt (now (state .entry)) (now (block .entry))) (asHeld h)) × EventLens r ⌝ }
 {
     let units = h.units;
     let text = last_text(state, block, h);

@@ -25,7 +25,7 @@ fn is_control(key: Key) -> bool
     }
 }
 
-// tao's is_current_fake: on an AltGr layout, Control before the right Alt key, whose lParam was peeked.
+// SCOPE 3.8, tao's is_current_fake: on an AltGr layout, Control before the right Alt key, whose lParam was peeked.
 pub fn is_current_fake(
     block: &[u8],
     n: PartialKeyEventInfo,
@@ -34,7 +34,7 @@ pub fn is_current_fake(
     lparam: u64,
 ) -> bool
     requires { ⌜ blockOk (now block) ≡ true ⌝ }
-    ensures { λ r. ⌜ ((state : List ℕ) → r ≡ fake (keyboardAt (now (block .entry)) state) (asInfo n) (some (record { kind = kind; wparam = wparam; lparam = lparam }))) ⌝ }
+    ensures { λ r. ⌜ ((state : List ℕ) → r ≡ fake (keyboardAt state (now (block .entry))) (asInfo n) (some (record { kind = kind; wparam = wparam; lparam = lparam }))) ⌝ }
 {
     let logical = n.logical_key;
     let key = logical.key;

@@ -29,7 +29,7 @@ pub struct FocusKeys {
 
 const VK_CAPITAL: u8 = 0x14;
 
-// VK_LCONTROL, VK_LSHIFT, VK_LMENU, VK_RCONTROL, VK_RSHIFT, VK_RMENU.
+// SCOPE 3.14, 10.7: VK_LCONTROL, VK_LSHIFT, VK_LMENU, VK_RCONTROL, VK_RSHIFT, VK_RMENU.
 const MODIFIER_KEYS: [u8; 6] = [0xA2, 0xA0, 0xA4, 0xA3, 0xA1, 0xA5];
 
 // Whether a key is among the others: all but Caps Lock, VK_SHIFT, VK_CONTROL, VK_MENU and the six.
@@ -54,7 +54,7 @@ fn is_other(vk: u8) -> bool
 // Whether a key is down and has a scan code.
 fn is_written(state: &[u8], block: &[u8], vk: u8) -> bool
     requires { ⌜ blockOk (now block) ≡ true ⌝ }
-    ensures { λ r. ⌜ r ≡ written (keyboardAt (now (block .entry)) (now (state .entry))) vk ⌝ }
+    ensures { λ r. ⌜ r ≡ written (keyboardAt (now (state .entry)) (now (block .entry))) vk ⌝ }
 {
     if !lookup::keyboard_layout::is_down(state, vk as usize) {
         return false;
@@ -65,7 +65,7 @@ fn is_written(state: &[u8], block: &[u8], vk: u8) -> bool
 // Notes a key behind the first `at` where it is written, and says how many there are then.
 fn note(keys: &mut [u8; KEY_STATE_SIZE], at: usize, state: &[u8], block: &[u8], vk: u8) -> usize
     requires { ⌜ (at < KEYS) × (length (now keys) ≡ KEYS) × (blockOk (now block) ≡ true) ⌝ }
-    ensures { λ r. ⌜ (take r (now (keys .exit)) ≡ take at (now (keys .entry)) ++ writtenOf (keyboardAt (now (block .entry)) (now (state .entry))) (vk ∷ [])) × (r ≤ at + 1) × (length (now (keys .exit)) ≡ KEYS) ⌝ }
+    ensures { λ r. ⌜ (take r (now (keys .exit)) ≡ take at (now (keys .entry)) ++ writtenOf (keyboardAt (now (state .entry)) (now (block .entry))) (vk ∷ [])) × (r ≤ at + 1) × (length (now (keys .exit)) ≡ KEYS) ⌝ }
 {
     if !is_written(state, block, vk) {
         return at;
@@ -77,7 +77,7 @@ fn note(keys: &mut [u8; KEY_STATE_SIZE], at: usize, state: &[u8], block: &[u8], 
 // Notes the six modifier keys that are written, in the table's order.
 fn note_modifiers(keys: &mut [u8; KEY_STATE_SIZE], from: usize, state: &[u8], block: &[u8]) -> usize
     requires { ⌜ (from + 6 ≤ KEYS) × (length (now keys) ≡ KEYS) × (blockOk (now block) ≡ true) ⌝ }
-    ensures { λ r. ⌜ (take r (now (keys .exit)) ≡ take from (now (keys .entry)) ++ writtenOf (keyboardAt (now (block .entry)) (now (state .entry))) modifierKeys) × (r ≤ from + 6) × (length (now (keys .exit)) ≡ KEYS) ⌝ }
+    ensures { λ r. ⌜ (take r (now (keys .exit)) ≡ take from (now (keys .entry)) ++ writtenOf (keyboardAt (now (state .entry)) (now (block .entry))) modifierKeys) × (r ≤ from + 6) × (length (now (keys .exit)) ≡ KEYS) ⌝ }
 {
     let mut at = from;
     let mut i: usize = 0;
@@ -91,7 +91,7 @@ fn note_modifiers(keys: &mut [u8; KEY_STATE_SIZE], from: usize, state: &[u8], bl
 // Notes the other keys that are written, ascending.
 fn note_others(keys: &mut [u8; KEY_STATE_SIZE], from: usize, state: &[u8], block: &[u8]) -> usize
     requires { ⌜ (from ≤ 7) × (length (now keys) ≡ KEYS) × (blockOk (now block) ≡ true) ⌝ }
-    ensures { λ r. ⌜ (take r (now (keys .exit)) ≡ take from (now (keys .entry)) ++ writtenOf (keyboardAt (now (block .entry)) (now (state .entry))) (othersFrom KEYS 0)) × (r ≤ from + 246) × (length (now (keys .exit)) ≡ KEYS) ⌝ }
+    ensures { λ r. ⌜ (take r (now (keys .exit)) ≡ take from (now (keys .entry)) ++ writtenOf (keyboardAt (now (state .entry)) (now (block .entry))) (othersFrom KEYS 0)) × (r ≤ from + 246) × (length (now (keys .exit)) ≡ KEYS) ⌝ }
 {
     let mut at = from;
     let mut vk: usize = 0;
@@ -111,7 +111,7 @@ fn note_other(
     vk: u8,
 ) -> usize
     requires { ⌜ (at < KEYS) × (length (now keys) ≡ KEYS) × (blockOk (now block) ≡ true) ⌝ }
-    ensures { λ r. ⌜ (take r (now (keys .exit)) ≡ take at (now (keys .entry)) ++ writtenOf (keyboardAt (now (block .entry)) (now (state .entry))) (pick (isOther vk) (vk ∷ []) [])) × (r ≤ at + pick (isOther vk) 1 0) × (length (now (keys .exit)) ≡ KEYS) ⌝ }
+    ensures { λ r. ⌜ (take r (now (keys .exit)) ≡ take at (now (keys .entry)) ++ writtenOf (keyboardAt (now (state .entry)) (now (block .entry))) (pick (isOther vk) (vk ∷ []) [])) × (r ≤ at + pick (isOther vk) 1 0) × (length (now (keys .exit)) ≡ KEYS) ⌝ }
 {
     if !is_other(vk) {
         return at;
@@ -119,10 +119,10 @@ fn note_other(
     note(keys, at, state, block, vk)
 }
 
-// The keys that a focus change writes: at gain Caps Lock, the others, the six; at loss Caps Lock, the six, the others.
+// SCOPE 3.14, the keys that a focus change writes: at gain Caps Lock, the others, the six; at loss Caps Lock, the six, the others.
 pub fn focus_keys(state: &[u8], block: &[u8], st: ElementState) -> FocusKeys
     requires { ⌜ blockOk (now block) ≡ true ⌝ }
-    ensures { λ r. ⌜ (take (r .len) (r .keys) ≡ writtenOf (keyboardAt (now (block .entry)) (now (state .entry))) (focusKeys st)) × (r .len ≤ 253) × (length (r .keys) ≡ KEYS) ⌝ }
+    ensures { λ r. ⌜ (take (r .len) (r .keys) ≡ writtenOf (keyboardAt (now (state .entry)) (now (block .entry))) (focusKeys st)) × (r .len ≤ 253) × (length (r .keys) ≡ KEYS) ⌝ }
 {
     let mut keys = [0u8; KEY_STATE_SIZE];
     let first = note(&mut keys, 0, state, block, VK_CAPITAL);
@@ -143,7 +143,7 @@ pub fn focus_keys(state: &[u8], block: &[u8], st: ElementState) -> FocusKeys
 // How many events a focus change has.
 pub fn focus_count(state: &[u8], block: &[u8], st: ElementState) -> usize
     requires { ⌜ blockOk (now block) ≡ true ⌝ }
-    ensures { λ r. ⌜ r ≡ length (focusEvents (keyboardAt (now (block .entry)) (now (state .entry))) st) ⌝ }
+    ensures { λ r. ⌜ r ≡ length (focusEvents (keyboardAt (now (state .entry)) (now (block .entry))) st) ⌝ }
 {
     let counted = focus_keys(state, block, st);
     counted.len
@@ -151,7 +151,7 @@ pub fn focus_count(state: &[u8], block: &[u8], st: ElementState) -> usize
 
 // ---- the event of one key
 
-// The text of a focus event: the logical key's at gain, none at loss.
+// SCOPE 3.12, the text of a focus event: the logical key's at gain, none at loss.
 fn focus_text(st: ElementState, k: TextKey) -> Text
     requires { ⌜ (fullKeyFits KEY-TEXT-MOST (asKey k) ≡ true) × (k .text .len ≤ KEY-TEXT-MOST) ⌝ }
     ensures { λ r. ⌜ (asText r ≡ focusText st (asKey k)) × (r .len ≤ TEXT-MOST) ⌝ }
@@ -165,7 +165,7 @@ fn focus_text(st: ElementState, k: TextKey) -> Text
 // The event of a key that a focus change writes. Of the modifiers it knows the Caps Lock and Num Lock toggles alone.
 pub fn synthetic_event(state: &[u8], block: &[u8], st: ElementState, vk: u8) -> KeyEvent
     requires { ⌜ blockOk (now block) ≡ true ⌝ }
-    ensures { λ r. ⌜ (asEvent r ≡ syntheticEvent (keyboardAt (now (block .entry)) (now (state .entry))) st vk (scanCodeFor (mapsOf (now (block .entry))) vk)) × EventLens r ⌝ }
+    ensures { λ r. ⌜ (asEvent r ≡ syntheticEvent (keyboardAt (now (state .entry)) (now (block .entry))) st vk (scanCodeFor (mapsOf (now (block .entry))) vk)) × EventLens r ⌝ }
 {
     let vkey = vk as u16;
     let scancode = lookup::keyboard_layout::scancode_for(block, vkey);

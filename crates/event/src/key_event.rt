@@ -47,7 +47,7 @@ pub(crate) fn typed_text(units: [u16; UNITS_MOST], len: u8) -> Text
     Text { bytes, len: count }
 }
 
-// The logical key of a press whose typed text may become it.
+// SCOPE 3.13: the logical key of a press whose typed text may become it.
 fn typed_key(layout: TextKey, scancode: u16, text: Text) -> TextKey
     requires { ⌜ (layout .text .len ≤ TEXT-MOST) × (text .len ≤ TEXT-MOST) ⌝ }
     ensures { λ r. ⌜ (asKey r ≡ typedKey (asKey layout) scancode (asText text)) × (r .text .len ≤ TEXT-MOST) ⌝ }
@@ -122,7 +122,7 @@ pub(crate) fn finalize(h: HeldPress, text: Text, all: Text) -> KeyEvent
     event_of(info, code, key, ElementState::Pressed, text, all)
 }
 
-// A press that no character message follows.
+// SCOPE 3.6: a press that no character message follows.
 pub fn press_event(h: HeldPress) -> KeyEvent
     requires { ⌜ InfoLens (h .info) ⌝ }
     ensures { λ r. ⌜ (asEvent r ≡ pressEvent (asHeld h)) × EventLens r ⌝ }

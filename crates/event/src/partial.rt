@@ -95,7 +95,7 @@ pub(crate) fn layout_key(
     text_key(block, k)
 }
 
-// A dead key becomes its character, unidentified if it has none.
+// SCOPE 3.16: a dead key becomes its character, unidentified if it has none.
 fn undead_key(k: TextKey) -> TextKey
     requires { ⌜ (fullKeyFits KEY-TEXT-MOST (asKey k) ≡ true) × (k .text .len ≤ KEY-TEXT-MOST) ⌝ }
     ensures { λ r. ⌜ (asKey r ≡ undead (asKey k)) × (r .text .len ≤ KEY-TEXT-MOST) ⌝ }
@@ -126,7 +126,7 @@ const NUM_LOCK_CODE: u16 = 85;
 
 const PAUSE_CODE: u16 = 121;
 
-// The place of the key that a code is with Control on: NumLock or Pause; 0 where it is neither.
+// SCOPE 3.7, the place of the key that a code is with Control on: NumLock or Pause; 0 where it is neither.
 fn forced_key(control: bool, code: KeyCode) -> u16
     ensures { λ r. ⌜ asNamed r ≡ codeAsKey control code ⌝ }
 {
@@ -144,7 +144,7 @@ fn forced_key(control: bool, code: KeyCode) -> u16
 // What is kept of a press or a release. With Control on, NumLock and Pause are themselves, whatever the layout says.
 pub fn from_message(state: &[u8], block: &[u8], vkey: u16, l: KeyLParam) -> PartialKeyEventInfo
     requires { ⌜ blockOk (now block) ≡ true ⌝ }
-    ensures { λ r. ⌜ (asInfo r ≡ fromMessage (keyboardAt (now (block .entry)) (now (state .entry))) vkey l) × InfoLens r ⌝ }
+    ensures { λ r. ⌜ (asInfo r ≡ fromMessage (keyboardAt (now (state .entry)) (now (block .entry))) vkey l) × InfoLens r ⌝ }
 {
     let scancode = lookup::keyboard::message_scancode(block, vkey, l);
     let mods = WindowsModifiers::active_modifiers(state);
@@ -184,7 +184,7 @@ pub fn from_message(state: &[u8], block: &[u8], vkey: u16, l: KeyLParam) -> Part
     }
 }
 
-// Whether a typed text may become the logical key: the layout's answer is a character and Control is off.
+// SCOPE 3.13, whether a typed text may become the logical key: the layout's answer is a character and Control is off.
 fn mark_of(key: Key, control: bool) -> bool
     ensures { λ r. ⌜ r ≡ (isCharacter (full key []) && not control) ⌝ }
 {
@@ -203,7 +203,7 @@ fn mark_of(key: Key, control: bool) -> bool
 // The press as it is held at its finish, with no units yet.
 pub fn press(state: &[u8], block: &[u8], vkey: u16, l: KeyLParam) -> HeldPress
     requires { ⌜ blockOk (now block) ≡ true ⌝ }
-    ensures { λ r. ⌜ (asHeld r ≡ heldOf (keyboardAt (now (block .entry)) (now (state .entry))) vkey l) × InfoLens (r .info) × (r .len ≡ 0) ⌝ }
+    ensures { λ r. ⌜ (asHeld r ≡ heldOf (keyboardAt (now (state .entry)) (now (block .entry))) vkey l) × InfoLens (r .info) × (r .len ≡ 0) ⌝ }
 {
     let info = from_message(state, block, vkey, l);
     let mods = WindowsModifiers::active_modifiers(state);

@@ -1,4 +1,4 @@
--- The values that document 01 marks P ('Values to check'), as tables, and the test that a row is right.
+-- The values of SCOPE 8.1, as tables, and the test that a row is right.
 -- Assumes nothing.
 use Prim.Native.Nat.{ℕ}
 use mathlib.Core.Bool.{Bool, true, false, not, _&&_}

@@ -1,1 +1,1 @@
-// The values that document 01 marks P, of the definitions. No function.
+// The values of SCOPE 8.1 (docs/SCOPE.md), of the definitions. No function.

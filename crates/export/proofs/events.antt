@@ -3,3 +3,5 @@ mod Put
 pub mod Place
 mod Reading
 pub mod HandedOut
+pub mod Told
+pub mod Host

@@ -13,6 +13,10 @@ use Rattle.session.specs.declared.ProcResult.{ProcResult}
 use Rattle.export.specs.Numbers.{NONE, refusalOf, tokenNumber, changed}
 use Rattle.export.specs.Events.{isAnswer}
 
+-- the number of this interface: it rises with each change of a signature, of what a number means, or of an area
+abbrev pub INTERFACE : ℕ
+INTERFACE = 1
+
 -- an open in numbers: its refusal, its token, what becomes of the message result, and both areas are those of all that it leaves
 abbrev pub OpenSays : ℕ → ℕ → ℕ → List ℕ → List ℕ → Left → ProcResult → Type 0
 OpenSays refused opened result session answers l was =

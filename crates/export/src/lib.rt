@@ -16,11 +16,24 @@ ghost use Rattle.session.specs.declared.ProcResult.{ProcResult};
 ghost use Rattle.message.specs.Calls.{inputs, message};
 ghost use Rattle.message.specs.Peeked.{asPeeked};
 ghost use Rattle.export.specs.Events.{eventAt, fieldsLeft, textAt, textLeft};
-ghost use Rattle.export.specs.Interface.{OpenSays, FinishSays, peekedAs, countOf};
+ghost use Rattle.export.specs.Interface.{INTERFACE, OpenSays, FinishSays, peekedAs, countOf};
 use crate::numbers::NONE;
 use message::peeked::Peeked;
 use session::PendingMessageToken;
 use session::ProcResult;
+
+// ---- which interface this is
+
+// It rises with each change of a signature, of what a number means, or of an area. MAHJONGLARCH_INTERFACE of the header is the same.
+const INTERFACE: u32 = 1;
+
+// The number of this interface, for a host to compare with its header's before the first call.
+#[no_mangle]
+pub extern "C" fn mahjonglarch_interface() -> u32
+    ensures { λ r. ⌜ r ≡ INTERFACE ⌝ }
+{
+    INTERFACE
+}
 
 // ---- a fresh session
 

@@ -43,7 +43,7 @@ textIn (unidentified c) = []
 textIn dead = []
 textIn (deadChar c) = []
 
--- tao's Key::to_text: a character gives its text, and five control keys give one byte
+-- SCOPE 5.5, tao's Key::to_text: a character gives its text, and five control keys give one byte
 unfoldable pub toText : FullKey → Option (List ℕ)
 toText (named n) =
     assoc

@@ -1,6 +1,6 @@
-// Document 01's values of the limits and of the refusals, executed: what just passes, what is refused, and that a refused call keeps both
-// areas and the message result. It reads its steps from standard input; a step that has a name is printed with what it gave. The layout has
-// one key, 31 with the scan code 02, whose character is 1.
+// The values of the limits and of the refusals (docs/SCOPE.md, 8.2 and 6), executed: what just passes, what is refused, and that a refused
+// call keeps both areas and the message result. It reads its steps from standard input; a step that has a name is printed with what it gave. The
+// layout has one key, 31 with the scan code 02, whose character is 1.
 //
 //   new                        a fresh session
 //   keys VK ..                 the keys that are down; all others are up
@@ -89,7 +89,7 @@ fn show_number(n: u64) {
 fn open(session: &mut [u8], answers: &mut [u8], state: &[u8], block: &[u8], m: Message) -> Said {
     let lent = ProcResult::Value(7);
     let kind = m.kind;
-    let o = message::open(
+    let o = message::process_message::lend_result(
         session,
         answers,
         state,
@@ -126,7 +126,7 @@ fn show_open(session: &mut [u8], answers: &mut [u8], state: &[u8], block: &[u8],
     show::copy(answers, &mut answers_was);
     let lent = ProcResult::Value(7);
     let kind = m.kind;
-    let o = message::open(
+    let o = message::process_message::lend_result(
         session,
         answers,
         state,

@@ -102,7 +102,7 @@ listsOk x = pick (every (oneOk x) LISTS 0) (eqb (startOf x LISTS) (length x)) fa
 unfoldable pub tableOk : List ℕ → Bool
 tableOk x = every (λ i. nonCharOk (cellAt x i)) VKEYS 0
 
--- question 3
+-- SCOPE 6.3
 unfoldable pub blockOk : List ℕ → Bool
 blockOk x =
     pick (ltb BLOCK-MOST (length x)) false

@@ -1,4 +1,4 @@
--- The key code of a scan code, as tao's keycode.rs lists them.
+-- The key code of a scan code, as tao's keycode.rs lists them (SCOPE 5.4).
 -- Assumes nothing.
 use Prim.Native.Nat.{ℕ}
 use mathlib.Core.List.{List, [], _∷_}

@@ -55,7 +55,7 @@ unfoldable pub blockOf : Maps → List ℕ
 blockOf m =
     pick (m .hasAltGraph) 1 0 ∷ 0 ∷ (words (counts (listsIn m)) ++ (words (sizes (listsIn m)) ++ (words (cellsIn m) ++ bodies (listsIn m))))
 
--- "for each list entry, 16 and its text"
+-- SCOPE 5.2: for each list entry, 16 and its text
 unfoldable pub entryBytes : List Item → ℕ
 entryBytes [] = 0
 entryBytes (i ∷ r) = ENTRY-HEAD + length (textIn (i .value)) + entryBytes r

@@ -1,4 +1,4 @@
--- What a layout answers, over its maps: keyboard_layout.rs, in document 01's order.
+-- What a layout answers, over its maps: keyboard_layout.rs, in the order of SCOPE 5.1.
 -- Assumes nothing.
 use Prim.Native.Nat.{ℕ, _+_, _-_}
 use mathlib.Core.Bool.{Bool}
@@ -24,15 +24,15 @@ abbrev pub orElse : {A : Type 0} → Option A → A → A
 orElse none d = d
 orElse (some a) d = a
 
--- "the non-character key of the virtual key (not for VK_MENU, 12)"
+-- SCOPE 5.1: the non-character key of the virtual key (not for VK_MENU, 12)
 unfoldable pub nonCharKey : Maps → ℕ → ℕ
 nonCharKey m vkey = pick (eqb vkey 0x12) 0 (getD (m .nonCharKeys) vkey 0)
 
 abbrev pub asNamed : ℕ → Option FullKey
 asNamed n = pick (eqb n 0) none (some (named n))
 
--- "get_key asks, in order: the non-character key of the virtual key, the Num Lock on or off list,
--- then the list for these modifiers and this key code; else unidentified"
+-- SCOPE 5.1: asked in order are the non-character key of the virtual key, the Num Lock on or off list,
+-- the list for these modifiers and this key code; else the key is unidentified.
 -- A key that a list holds ends the search, an unidentified one too.
 unfoldable pub getKey : Maps → ℕ → Bool → ℕ → ℕ → KeyCode → FullKey
 getKey m mods numLock vkey scancode code =
@@ -40,15 +40,15 @@ getKey m mods numLock vkey scancode code =
     (orElse (find vkey (pick numLock (m .numLockOn) (m .numLockOff)))
     (orElse (findCode code (listFor mods (m .keys))) (unidentified (Windows scancode))))
 
--- the block's scan code for a virtual key: none (0) above FF
+-- SCOPE 5.1: the block's scan code for a virtual key, none (0) above FF
 unfoldable pub scanCodeFor : Maps → ℕ → ℕ
 scanCodeFor m vkey = getD (m .scanCodes) vkey 0
 
--- "Scan code 00 instead takes the block's code for the virtual key, whatever bit 24 says."
+-- SCOPE 3.1: for the scan code 00 the block's code of the virtual key, whatever bit 24 says
 unfoldable pub messageScancode : Maps → ℕ → KeyLParam → ℕ
 messageScancode m vkey l = pick (eqb (l .scancode) 0) (scanCodeFor m vkey) (exScancode (l .scancode) (l .extended))
 
--- "virtual keys for scan codes of pages 00, E0 and E1 (0 elsewhere)"
+-- SCOPE 5.2: virtual keys for the scan codes of pages 00, E0 and E1 (0 elsewhere)
 unfoldable pub vkeyFor : Maps → ℕ → ℕ
 vkeyFor m scancode =
     pick (ltb scancode 0x100) (getD (m .virtualKeys) scancode 0)

@@ -1,4 +1,4 @@
--- The maps of a keyboard layout, as tao's Layout has them, and what question 3 asks of them.
+-- The maps of a keyboard layout, as tao's Layout has them (SCOPE 5.2), and what question 3 asks of them (SCOPE 6.3).
 -- Assumes nothing.
 use mathlib.Core.Path.{_≡_}
 use Prim.Native.Nat.{ℕ, zero, suc, _+_, _^_}
@@ -59,11 +59,11 @@ listFor (suc n) (l ∷ ls) = listFor n ls
 
 -- ---- the conditions
 
--- "texts .. of 1 to 24 bytes": a character (number 0) has a text, another key has none
+-- SCOPE 6.3: texts of 1 to 24 bytes; a character (number 0) has a text, another key has none
 unfoldable pub lenOk : ℕ → ℕ → Bool
 lenOk number len = pick (eqb number 0) (pick (eqb len 0) false (leb len ENTRY-TEXT-MOST)) (eqb len 0)
 
--- "key numbers in range, dead characters scalar values, texts UTF-8 of 1 to 24 bytes"
+-- SCOPE 6.3: key numbers in range, dead characters scalar values, texts UTF-8 of 1 to 24 bytes
 unfoldable pub valueOk : FullKey → Bool
 valueOk f =
     pick (keyFits (bareOf f)) (pick (lenOk (keyNumber (bareOf f)) (length (textIn f))) (wellFormed (textIn f)) false) false
@@ -72,7 +72,7 @@ valueOk f =
 unfoldable pub itemOk : (ℕ → Bool) → ℕ → Item → Bool
 itemOk p lo i = pick (ltb (i .key) lo) false (pick (p (i .key)) (valueOk (i .value)) false)
 
--- "lists strictly ascending"
+-- SCOPE 6.3: lists strictly ascending
 unfoldable pub itemsOk : (ℕ → Bool) → ℕ → List Item → Bool
 itemsOk p lo [] = true
 itemsOk p lo (i ∷ r) = pick (itemOk p lo i) (itemsOk p (i .key + 1) r) false

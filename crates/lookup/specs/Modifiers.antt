@@ -37,7 +37,7 @@ activeModifiers state =
       «caps_lock» = capsLockOn state;
     }
 
--- Control is removed unless Alt is on
+-- SCOPE 3.11: Control is removed unless Alt is on
 unfoldable pub removeOnlyCtrl : WindowsModifiers → WindowsModifiers
 removeOnlyCtrl m =
     record { shift = m .shift; control = pick (m .alt) (m .control) false; alt = m .alt; «caps_lock» = m .«caps_lock» }

@@ -2,7 +2,7 @@
 -- Assumes nothing.
 use Prim.Native.Nat.{ℕ}
 
--- question 3's own limit, in bytes
+-- SCOPE 6.3: its own limit, in bytes
 abbrev pub BLOCK-MOST : ℕ
 BLOCK-MOST = 65536
 

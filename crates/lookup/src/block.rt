@@ -156,7 +156,7 @@ fn lists_ok(block: &[u8]) -> bool
     at == block.len()
 }
 
-// Whether the bytes are a layout block.
+// SCOPE 6.3: whether the bytes are a layout block.
 pub fn block_ok(block: &[u8]) -> bool
     ensures { λ r. ⌜ r ≡ blockOk (now (block .entry)) ⌝ }
 {

@@ -52,7 +52,7 @@ pub fn virtual_key(wparam: u64) -> u16
 
 // ---- scan code and location
 
-// The scan code of a press or a release: the block's where the message carries none.
+// SCOPE 3.1: the scan code of a press or a release, the block's where the message carries none.
 pub fn message_scancode(block: &[u8], vkey: u16, l: KeyLParam) -> u16
     requires { ⌜ blockOk (now block) ≡ true ⌝ }
     ensures { λ r. ⌜ r ≡ messageScancode (mapsOf (now (block .entry))) vkey l ⌝ }

@@ -266,7 +266,7 @@ fn place_for(block: &[u8], mods: WindowsModifiers, num_lock_on: bool, vkey: u16,
     place_in(block, LOCK_LISTS + mods.bits(), key)
 }
 
-// tao's Layout::get_key. A virtual key above FF finds nothing in the first two lookups.
+// SCOPE 5.1, tao's Layout::get_key. A virtual key above FF finds nothing in the first two lookups.
 pub fn get_key(
     block: &[u8],
     mods: WindowsModifiers,
@@ -303,7 +303,7 @@ pub fn get_key(
     }
 }
 
-// The text of a key, as the part of the block that holds it.
+// SCOPE 5.3, 10.1: the text of a key, as the part of the block that holds it.
 pub fn key_text<'a>(block: &'a [u8], k: LayoutKey) -> &'a [u8]
     ensures { λ r. ⌜ now r ≡ partOf (now (block .entry)) k ⌝ }
 {

@@ -4,7 +4,7 @@ ghost use Rattle.lookup.specs.Codes.{keyCodeOf};
 use keys::NativeKeyCode;
 use keys::key_code::KeyCode;
 
-// The key code of a scan code; an unlisted code is unidentified, with the code inside.
+// SCOPE 5.4, 10.2: the key code of a scan code; an unlisted code is unidentified, with the code inside.
 // keycode_from_scancode: from tao's files
 pub fn keycode_from_scancode(scancode: u16) -> KeyCode
     ensures { λ r. ⌜ r ≡ keyCodeOf scancode ⌝ }

@@ -152,13 +152,13 @@ module _ (x y state block : List ℕ) (r : ProcResult) (m : Message) where
   said-so why n h e = rw (n .0, n .1, h) (open-refused why e)
 
   module _ (k : MessageSort) (sorted : asSort k ≡ sortOf m) where
-    put-here : firstNo (messageQuestions (decode x) (keyboardAt block state) m (asSort k)) ≡ firstNo (sessionQuestions (decode x) brings)
+    put-here : firstNo (messageQuestions (decode x) (keyboardAt state block) m (asSort k)) ≡ firstNo (sessionQuestions (decode x) brings)
     unfolding sessionQuestions keyboardOf
-    put-here = ap (λ (s : Sort). firstNo (messageQuestions (decode x) (keyboardAt block state) m s)) sorted
+    put-here = ap (λ (s : Sort). firstNo (messageQuestions (decode x) (keyboardAt state block) m s)) sorted
 
-    done-here : messageEffect (decode x) (keyboardAt block state) m (asSort k) ≡ effectOf (decode x) brings
+    done-here : messageEffect (decode x) (keyboardAt state block) m (asSort k) ≡ effectOf (decode x) brings
     unfolding keyboardOf
-    done-here = ap (messageEffect (decode x) (keyboardAt block state) m) sorted ∙ sym (effect-brought (decode x) (inputs state block) m)
+    done-here = ap (messageEffect (decode x) (keyboardAt state block) m) sorted ∙ sym (effect-brought (decode x) (inputs state block) m)
 
   module _ {q : Asked} (early : asNo q ≡ firstNo (firstFour x y state block)) where
     pub open-early :
@@ -167,7 +167,7 @@ module _ (x y state block : List ℕ) (r : ProcResult) (m : Message) where
     unfolding asNo
     open-early why e n h = said-so why n h (outcome-early x y brings (refusalNumber why) (rw e at early))
 
-    module _ (passed : q ≡ a.Passed) (k : MessageSort) (sorted : asSort k ≡ sortOf m) {p : Asked} (late : asNo p ≡ firstNo (messageQuestions (decode x) (keyboardAt block state) m (asSort k))) where
+    module _ (passed : q ≡ a.Passed) (k : MessageSort) (sorted : asSort k ≡ sortOf m) {p : Asked} (late : asNo p ≡ firstNo (messageQuestions (decode x) (keyboardAt state block) m (asSort k))) where
       pub open-late :
           (why : Refusal) → p ≡ a.Failed why → {v : OpenAnswer} {w u : ProcResult} → (v ≡ o.Refused why) × (w ≡ u) → u ≡ r →
           left (openSaid v) w x y ≡ openOf x y r (inputs state block) m
@@ -178,7 +178,7 @@ module _ (x y state block : List ℕ) (r : ProcResult) (m : Message) where
 
       pub open-passed :
           p ≡ a.Passed → (after : ProcResult) {v b : OpenAnswer} {w c : ProcResult} {z u : List ℕ} → after ≡ resultBy (asSort k) (decode x) m r →
-          Gives (messageEffect (decode x) (keyboardAt block state) m (asSort k)) b z u → (v ≡ b) × (w ≡ c) → c ≡ after →
+          Gives (messageEffect (decode x) (keyboardAt state block) m (asSort k)) b z u → (v ≡ b) × (w ≡ c) → c ≡ after →
           left (openSaid v) w z u ≡ openOf x y r (inputs state block) m
       unfolding asNo leftBy
       open-passed e after h g n i =
@@ -217,7 +217,7 @@ module _ (x y state block : List ℕ) (r : ProcResult) (t : ℕ) (n : Option Mes
   unfolding sessionQuestions
   finish-put = refl
 
-  finish-done : finishEffect (decode x) (keyboardAt block state) t n (findWait t (decode x .entries)) ≡ effectOf (decode x) finishes
+  finish-done : finishEffect (decode x) (keyboardAt state block) t n (findWait t (decode x .entries)) ≡ effectOf (decode x) finishes
   unfolding keyboardOf
   finish-done = sym (effect-finished (decode x) (inputs state block) t n)
 
@@ -234,13 +234,13 @@ module _ (x y state block : List ℕ) (r : ProcResult) (t : ℕ) (n : Option Mes
 
       pub finish-passed :
           p ≡ a.Passed → {z u : List ℕ} →
-          Does (finishedBy (decode x) (keyboardAt block state) t n) z u →
+          Does (finishedBy (decode x) (keyboardAt state block) t n) z u →
           left (finishSaid f.Finished) r z u ≡ finishOf x y r (inputs state block) t n
       unfolding asNo leftBy finishSaid
       finish-passed e g =
           let d = finish-done in
           same-left
-          (ap saidToken (sym (finish-token (decode x) (keyboardAt block state) t n (findWait t (decode x .entries))) ∙ ap (λ (f : Effect). f .token) d))
+          (ap saidToken (sym (finish-token (decode x) (keyboardAt state block) t n (findWait t (decode x .entries))) ∙ ap (λ (f : Effect). f .token) d))
           refl
           (g .session ∙ ap (λ (f : Effect). encode (f .after)) d)
           (g .answers ∙ ap (λ (f : Effect). encodeAnswer (f .events)) d)

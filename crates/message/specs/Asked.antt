@@ -19,6 +19,6 @@ unfoldable pub asNo : Asked → Option ℕ
 asNo a.Passed = none
 asNo (a.Failed r) = some (refusalNumber r)
 
--- "1 to 4 are put to every call"
+-- SCOPE 6.11: 1 to 4 are put to every call
 unfoldable pub firstFour : List ℕ → List ℕ → List ℕ → List ℕ → List (ℕ × Bool)
 firstFour x y state block = (1, question1 x y) ∷ (2, eqb (length state) KEYS) ∷ (3, blockOk block) ∷ (4, sessionOk x) ∷ []

@@ -20,7 +20,7 @@ use session::PendingMessageToken;
 
 // ---- a press
 
-// A press forgets the held press. It is held itself where what was peeked says so; else it is completed, unless fake.
+// SCOPE 3.5: a press forgets the held press. It is held itself where what was peeked says so; else it is completed, unless fake.
 fn finish_press(
     session: &mut [u8],
     answers: &mut [u8],
@@ -31,7 +31,7 @@ fn finish_press(
     peeked: Peeked,
 )
     requires { ⌜ EntryAt Press (now session) (now answers) (now block) (token .0) place ⌝ }
-    ensures { λ _. ⌜ Does (finishedBy (decode (now (session .entry))) (keyboardAt (now (block .entry)) (now (state .entry))) (token .0) (asPeeked peeked)) (now (session .exit)) (now (answers .exit)) ⌝ }
+    ensures { λ _. ⌜ Does (finishedBy (decode (now (session .entry))) (keyboardAt (now (state .entry)) (now (block .entry))) (token .0) (asPeeked peeked)) (now (session .exit)) (now (answers .exit)) ⌝ }
 {
     let at = ENTRIES_AT + ENTRY_SIZE * place + 4;
     let p = record::read::pressed_at(&session[at..]);
@@ -52,7 +52,7 @@ fn finish_press(
 
 // ---- a release
 
-// A release is completed with what its open read, unless fake by the finish's AltGr flag. The held press stays.
+// SCOPE 3.4, 3.15: a release is completed with what its open read, unless fake by the finish's AltGr flag. The held press stays.
 fn finish_release(
     session: &mut [u8],
     answers: &mut [u8],
@@ -63,7 +63,7 @@ fn finish_release(
     peeked: Peeked,
 )
     requires { ⌜ EntryAt Release (now session) (now answers) (now block) (token .0) place ⌝ }
-    ensures { λ _. ⌜ Does (finishedBy (decode (now (session .entry))) (keyboardAt (now (block .entry)) (now (state .entry))) (token .0) (asPeeked peeked)) (now (session .exit)) (now (answers .exit)) ⌝ }
+    ensures { λ _. ⌜ Does (finishedBy (decode (now (session .entry))) (keyboardAt (now (state .entry)) (now (block .entry))) (token .0) (asPeeked peeked)) (now (session .exit)) (now (answers .exit)) ⌝ }
 {
     let at = ENTRIES_AT + ENTRY_SIZE * place + 5;
     let info = record::read::info_at(&session[at..]);
@@ -77,7 +77,7 @@ fn finish_release(
 
 // ---- a character
 
-// The last character completes the press that is held then.
+// SCOPE 3.10: the last character completes the press that is held then.
 fn finish_character(
     session: &mut [u8],
     answers: &mut [u8],
@@ -88,7 +88,7 @@ fn finish_character(
     peeked: Peeked,
 )
     requires { ⌜ EntryAt Character (now session) (now answers) (now block) (token .0) place ⌝ }
-    ensures { λ _. ⌜ Does (finishedBy (decode (now (session .entry))) (keyboardAt (now (block .entry)) (now (state .entry))) (token .0) (asPeeked peeked)) (now (session .exit)) (now (answers .exit)) ⌝ }
+    ensures { λ _. ⌜ Does (finishedBy (decode (now (session .entry))) (keyboardAt (now (state .entry)) (now (block .entry))) (token .0) (asPeeked peeked)) (now (session .exit)) (now (answers .exit)) ⌝ }
 {
     let head = record::read::header_at(session);
     if crate::peeked::completes(head.held, peeked) {
@@ -113,7 +113,7 @@ pub fn finish_open(
     peeked: Peeked,
 )
     requires { ⌜ IsArea (now session) × (length (now answers) ≡ AREA) × (blockOk (now block) ≡ true) ⌝ }
-    ensures { λ _. ⌜ Does (finishedBy (decode (now (session .entry))) (keyboardAt (now (block .entry)) (now (state .entry))) (token .0) (asPeeked peeked)) (now (session .exit)) (now (answers .exit)) ⌝ }
+    ensures { λ _. ⌜ Does (finishedBy (decode (now (session .entry))) (keyboardAt (now (state .entry)) (now (block .entry))) (token .0) (asPeeked peeked)) (now (session .exit)) (now (answers .exit)) ⌝ }
 {
     let h = record::read::header_at(session);
     let place = queue::pending::find(session, token);

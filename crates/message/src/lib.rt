@@ -1,4 +1,5 @@
-// tao's KeyEventBuilder::process_message, cut at its peek: open takes a message, finish what was peeked.
+// tao's KeyEventBuilder::process_message, cut at its peek: open takes a message, finish what was peeked (SCOPE 2.2; SCOPE and a number is a
+// clause of docs/SCOPE.md).
 mod finishing;
 mod opening;
 pub mod peeked;
@@ -31,7 +32,7 @@ fn answered(answer: OpenAnswer, result: ProcResult) -> Opened
     Opened { answer, result }
 }
 
-// Takes a message. `result` is the message result as it was.
+// SCOPE 1.1, 2.2: takes a message. `result` is the message result as it was.
 pub fn open(
     session: &mut [u8],
     answers: &mut [u8],
@@ -59,7 +60,7 @@ pub fn open(
     answered(answer, after)
 }
 
-// Finishes the latest open message with what was peeked.
+// SCOPE 1.1, 2.2: finishes the latest open message with what was peeked.
 pub fn finish(
     session: &mut [u8],
     answers: &mut [u8],

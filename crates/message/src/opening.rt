@@ -30,7 +30,7 @@ use session::ProcResult;
 // Straight to the answer area.
 fn hand_out_focus(answers: &mut [u8], state: &[u8], block: &[u8], st: ElementState)
     requires { ⌜ (length (now answers) ≡ AREA) × (blockOk (now block) ≡ true) ⌝ }
-    ensures { λ _. ⌜ now (answers .exit) ≡ encodeAnswer (focusEvents (keyboardAt (now (block .entry)) (now (state .entry))) st) ⌝ }
+    ensures { λ _. ⌜ now (answers .exit) ≡ encodeAnswer (focusEvents (keyboardAt (now (state .entry)) (now (block .entry))) st) ⌝ }
 {
     let written = event::focus::focus_keys(state, block, st);
     let keys = written.keys;
@@ -46,8 +46,8 @@ fn hand_out_focus(answers: &mut [u8], state: &[u8], block: &[u8], st: ElementSta
 
 // As completed entries behind the last one, each under a token of its own.
 fn queue_focus(session: &mut [u8], state: &[u8], block: &[u8], st: ElementState)
-    requires { ⌜ IsArea (now session) × (blockOk (now block) ≡ true) × (0 < length (decode (now session) .entries)) × FitBehind (decode (now session)) (focusEvents (keyboardAt (now block) (now state)) st) ⌝ }
-    ensures { λ _. ⌜ now (session .exit) ≡ encode (followed (decode (now (session .entry))) (focusEvents (keyboardAt (now (block .entry)) (now (state .entry))) st)) ⌝ }
+    requires { ⌜ IsArea (now session) × (blockOk (now block) ≡ true) × (0 < length (decode (now session) .entries)) × FitBehind (decode (now session)) (focusEvents (keyboardAt (now state) (now block)) st) ⌝ }
+    ensures { λ _. ⌜ now (session .exit) ≡ encode (followed (decode (now (session .entry))) (focusEvents (keyboardAt (now (state .entry)) (now (block .entry))) st)) ⌝ }
 {
     let noted = event::focus::focus_keys(state, block, st);
     let keys = noted.keys;
@@ -74,7 +74,7 @@ fn open_press(session: &mut [u8], answers: &mut [u8], wparam: u64, lparam: u64) 
     OpenAnswer::Opened(token) // the press
 }
 
-// A release is read from layout and key state at its open.
+// SCOPE 3.4: a release is read from layout and key state at its open.
 fn open_release(
     session: &mut [u8],
     answers: &mut [u8],
@@ -84,7 +84,7 @@ fn open_release(
     lparam: u64,
 ) -> OpenAnswer
     requires { ⌜ HasRoom (now session) × (length (now answers) ≡ AREA) × (blockOk (now block) ≡ true) ⌝ }
-    ensures { λ r. ⌜ Gives (opening (decode (now (session .entry))) (release (fromMessage (keyboardAt (now (block .entry)) (now (state .entry))) (virtualKey wparam) (keyLParam lparam))) (decode (now (session .entry)) .held)) r (now (session .exit)) (now (answers .exit)) ⌝ }
+    ensures { λ r. ⌜ Gives (opening (decode (now (session .entry))) (release (fromMessage (keyboardAt (now (state .entry)) (now (block .entry))) (virtualKey wparam) (keyLParam lparam))) (decode (now (session .entry)) .held)) r (now (session .exit)) (now (answers .exit)) ⌝ }
 {
     let vkey = lookup::keyboard::virtual_key(wparam);
     let l = lookup::keyboard::destructure_key_lparam(lparam);
@@ -105,7 +105,7 @@ fn open_none(answers: &mut [u8]) -> OpenAnswer
 
 // ---- a character
 
-// A character adds its units to the held press, and waits; without one it is ignored.
+// SCOPE 3.9: a character adds its units to the held press, and waits; without one it is ignored.
 fn open_char(session: &mut [u8], answers: &mut [u8], wparam: u64) -> OpenAnswer
     requires { ⌜ MayChar (now session) wparam × (length (now answers) ≡ AREA) ⌝ }
     ensures { λ r. ⌜ ((kind lparam : ℕ) → Gives (charOpened (decode (now (session .entry))) (record { kind = kind; wparam = wparam; lparam = lparam }) (decode (now (session .entry)) .held)) r (now (session .exit)) (now (answers .exit))) ⌝ }
@@ -124,7 +124,7 @@ fn open_char(session: &mut [u8], answers: &mut [u8], wparam: u64) -> OpenAnswer
 
 // ---- messages that are answered whole
 
-// A dead character completes the held press, behind the queue's last entry or straight out of an empty one.
+// SCOPE 4.4: a dead character completes the held press, behind the queue's last entry or straight out of an empty one.
 fn answer_dead_char(session: &mut [u8], answers: &mut [u8]) -> OpenAnswer
     requires { ⌜ HasRoom (now session) × (isHeld (decode (now session) .held) ≡ true) × (length (now answers) ≡ AREA) ⌝ }
     ensures { λ r. ⌜ Gives (deadCharAnswered (decode (now (session .entry))) (decode (now (session .entry)) .held)) r (now (session .exit)) (now (answers .exit)) ⌝ }
@@ -142,7 +142,7 @@ fn answer_dead_char(session: &mut [u8], answers: &mut [u8]) -> OpenAnswer
     OpenAnswer::OpenedNone
 }
 
-// A focus change hands out its events straight from an empty queue, else they go behind its last entry.
+// SCOPE 4.4: a focus change hands out its events straight from an empty queue, else they go behind its last entry.
 fn answer_focus(
     session: &mut [u8],
     answers: &mut [u8],
@@ -150,8 +150,8 @@ fn answer_focus(
     block: &[u8],
     st: ElementState,
 ) -> OpenAnswer
-    requires { ⌜ IsArea (now session) × (blockOk (now block) ≡ true) × (length (now answers) ≡ AREA) × FitBehind (decode (now session)) (focusEvents (keyboardAt (now block) (now state)) st) ⌝ }
-    ensures { λ r. ⌜ Gives (behind (decode (now (session .entry))) (focusEvents (keyboardAt (now (block .entry)) (now (state .entry))) st) (decode (now (session .entry)) .held) (decode (now (session .entry)) .entries)) r (now (session .exit)) (now (answers .exit)) ⌝ }
+    requires { ⌜ IsArea (now session) × (blockOk (now block) ≡ true) × (length (now answers) ≡ AREA) × FitBehind (decode (now session)) (focusEvents (keyboardAt (now state) (now block)) st) ⌝ }
+    ensures { λ r. ⌜ Gives (behind (decode (now (session .entry))) (focusEvents (keyboardAt (now (state .entry)) (now (block .entry))) st) (decode (now (session .entry)) .held) (decode (now (session .entry)) .entries)) r (now (session .exit)) (now (answers .exit)) ⌝ }
 {
     let h = record::read::header_at(session);
     if h.count == 0 { // before the focus change
@@ -175,8 +175,8 @@ pub fn open_by(
     wparam: u64,
     lparam: u64,
 ) -> OpenAnswer
-    requires { ⌜ IsArea (now session) × (length (now answers) ≡ AREA) × (blockOk (now block) ≡ true) × Passes (decode (now session)) (keyboardAt (now block) (now state)) (record { kind = 0; wparam = wparam; lparam = lparam }) (asSort sort) ⌝ }
-    ensures { λ r. ⌜ ((kind : ℕ) → Gives (messageEffect (decode (now (session .entry))) (keyboardAt (now (block .entry)) (now (state .entry))) (record { kind = kind; wparam = wparam; lparam = lparam }) (asSort sort)) r (now (session .exit)) (now (answers .exit))) ⌝ }
+    requires { ⌜ IsArea (now session) × (length (now answers) ≡ AREA) × (blockOk (now block) ≡ true) × Passes (decode (now session)) (keyboardAt (now state) (now block)) (record { kind = 0; wparam = wparam; lparam = lparam }) (asSort sort) ⌝ }
+    ensures { λ r. ⌜ ((kind : ℕ) → Gives (messageEffect (decode (now (session .entry))) (keyboardAt (now (state .entry)) (now (block .entry))) (record { kind = kind; wparam = wparam; lparam = lparam }) (asSort sort)) r (now (session .exit)) (now (answers .exit))) ⌝ }
 {
     match sort {
         MessageSort::KeyDown => open_press(session, answers, wparam, lparam),
@@ -188,8 +188,8 @@ pub fn open_by(
     }
 }
 
-// What the message result becomes: the default procedure's for a system key press, value 0 for what else opens and for a dead character;
-// focus, what is ignored and a character with no press held leave it as it is.
+// SCOPE 3.3, what the message result becomes: the default procedure's for a system key press, value 0 for what else opens and for a dead
+// character; focus, what is ignored and a character with no press held leave it as it is.
 pub fn result_after(sort: MessageSort, held: bool, kind: u32, result: ProcResult) -> ProcResult
     ensures { λ r. ⌜ ((s : Session) (wparam lparam : ℕ) → isHeld (s .held) ≡ held → r ≡ resultBy (asSort sort) s (record { kind = kind; wparam = wparam; lparam = lparam }) result) ⌝ }
 {

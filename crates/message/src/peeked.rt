@@ -18,7 +18,7 @@ pub enum Peeked {
     Message(u32, u64, u64),
 }
 
-// Whether a kind that was peeked makes a press the held one: any but a press or a release.
+// SCOPE 3.5: whether a kind that was peeked makes a press the held one: any but a press or a release.
 fn kind_holds(kind: u32) -> bool
     ensures { λ r. ⌜ ((wparam lparam : ℕ) → r ≡ holds (some (record { kind = kind; wparam = wparam; lparam = lparam }))) ⌝ }
 {
@@ -41,7 +41,7 @@ pub(crate) fn holds(peeked: Peeked) -> bool
     }
 }
 
-// Whether a kind that was peeked says that more characters are coming.
+// SCOPE 3.10: whether a kind that was peeked says that more characters are coming.
 fn kind_more(kind: u32) -> bool
     ensures { λ r. ⌜ ((wparam lparam : ℕ) → r ≡ moreComing (some (record { kind = kind; wparam = wparam; lparam = lparam }))) ⌝ }
 {
@@ -72,10 +72,10 @@ pub(crate) fn completes(held: bool, peeked: Peeked) -> bool
     !more_coming(peeked)
 }
 
-// Whether the key is fake, by what was peeked.
+// SCOPE 3.8: whether the key is fake, by what was peeked.
 pub(crate) fn is_fake(block: &[u8], info: PartialKeyEventInfo, peeked: Peeked) -> bool
     requires { ⌜ blockOk (now block) ≡ true ⌝ }
-    ensures { λ r. ⌜ ((state : List ℕ) → r ≡ fake (keyboardAt (now (block .entry)) state) (asInfo info) (asPeeked peeked)) ⌝ }
+    ensures { λ r. ⌜ ((state : List ℕ) → r ≡ fake (keyboardAt state (now (block .entry))) (asInfo info) (asPeeked peeked)) ⌝ }
 {
     match peeked {
         Peeked::Nothing => false, // no right Alt key behind it

@@ -1,4 +1,4 @@
-// The questions that a call is put through: 1 to 4 put to every call, 5 to 9 to calls that bring a message, 10 to finishes.
+// The questions that a call is put through (SCOPE 6): 1 to 4 put to every call, 5 to 9 to calls that bring a message, 10 to finishes.
 ghost use mathlib.Core.Bool.{true};
 ghost use mathlib.Core.Path.{_≡_};
 ghost use Prim.Native.Nat.{ℕ, _≤_};
@@ -70,10 +70,10 @@ fn opens(session: &[u8], sort: MessageSort) -> bool
     }
 }
 
-// How many entries it needs, and so many tokens. Focus on an empty queue needs none.
+// SCOPE 6.11: how many entries it needs, and so many tokens. Focus on an empty queue needs none.
 fn new_entries(session: &[u8], state: &[u8], block: &[u8], sort: MessageSort) -> usize
     requires { ⌜ IsArea (now session) × (blockOk (now block) ≡ true) ⌝ }
-    ensures { λ r. ⌜ (r ≡ newEntries (decode (now (session .entry))) (keyboardAt (now (block .entry)) (now (state .entry))) (asSort sort)) × (r ≤ ENTRIES-MOST) ⌝ }
+    ensures { λ r. ⌜ (r ≡ newEntries (decode (now (session .entry))) (keyboardAt (now (state .entry)) (now (block .entry))) (asSort sort)) × (r ≤ ENTRIES-MOST) ⌝ }
 {
     let h = record::read::header_at(session);
     match sort {
@@ -163,7 +163,7 @@ pub fn ask_message(
     wparam: u64,
 ) -> Asked
     requires { ⌜ IsArea (now session) × (blockOk (now block) ≡ true) ⌝ }
-    ensures { λ r. ⌜ ((kind lparam : ℕ) → asNo r ≡ firstNo (messageQuestions (decode (now (session .entry))) (keyboardAt (now (block .entry)) (now (state .entry))) (record { kind = kind; wparam = wparam; lparam = lparam }) (asSort sort))) ⌝ }
+    ensures { λ r. ⌜ ((kind lparam : ℕ) → asNo r ≡ firstNo (messageQuestions (decode (now (session .entry))) (keyboardAt (now (state .entry)) (now (block .entry))) (record { kind = kind; wparam = wparam; lparam = lparam }) (asSort sort))) ⌝ }
 {
     if !has_press(session, sort) {
         return Asked::Failed(Refusal::NothingHeld);

@@ -1,4 +1,4 @@
-// What a message is to the calls, by its kind.
+// What a message is to the calls, by its kind (SCOPE 2.3).
 ghost use mathlib.Core.Path.{_≡_};
 ghost use Rattle.session.specs.Calls.{sortOf};
 ghost use Rattle.message.specs.Sorts.{asSort};
@@ -36,7 +36,7 @@ const WM_SYSDEADCHAR: u32 = 0x107;
 
 const VK_F4: u64 = 0x73;
 
-// Alt and F4 close the window: not a press.
+// SCOPE 3.2: Alt and F4 close the window, which is not a press.
 fn sys_key_down(wparam: u64) -> MessageSort
     ensures { λ r. ⌜ asSort r ≡ sortOf (record { kind = 0x104; wparam = wparam; lparam = 0 }) ⌝ }
 {

@@ -1,5 +1,5 @@
-// The answer area: the number of the events that a call hands out, the events one behind the other, zeros behind. docs/AREAS.md has the
-// offsets.
+// The answer area (SCOPE 6.0): the number of the events that a call hands out, the events one behind the other, zeros behind. docs/AREAS.md has
+// the offsets.
 ghost use mathlib.Core.Bool.{true};
 ghost use mathlib.Core.List.{[], _∷_};
 ghost use mathlib.Core.Path.{_≡_};

@@ -1,5 +1,5 @@
-// tao's PendingEventQueue::complete_pending and remove_pending, with drain_pending: resolving the first entry empties the queue and hands out
-// the completed ones; any other completed entry waits.
+// tao's PendingEventQueue::complete_pending and remove_pending, with drain_pending (SCOPE 4.2, 4.3): resolving the first entry empties the queue
+// and hands out the completed ones; any other completed entry waits.
 ghost use mathlib.Core.Bool.{true};
 ghost use mathlib.Core.Option.{some, none};
 ghost use mathlib.Core.Path.{_≡_};

@@ -96,7 +96,7 @@ pub fn add_complete(session: &mut [u8], e: KeyEvent)
 
 // ---- open messages found and counted
 
-// Where the first entry that carries the token stands; behind the last where none does.
+// SCOPE 4.1, 10.4: where the first entry that carries the token stands; behind the last where none does.
 pub fn find(session: &[u8], token: PendingMessageToken) -> usize
     requires { ⌜ IsArea (now session) ⌝ }
     ensures { λ r. ⌜ r ≡ placeOfToken (token .0) (decode (now (session .entry)) .entries) ⌝ }
@@ -118,7 +118,7 @@ pub fn find(session: &[u8], token: PendingMessageToken) -> usize
     place
 }
 
-// Whether the token is that of the latest open message.
+// SCOPE 6.10: whether the token is that of the latest open message.
 pub fn is_latest(session: &[u8], token: PendingMessageToken) -> bool
     requires { ⌜ IsArea (now session) ⌝ }
     ensures { λ r. ⌜ r ≡ isToken (token .0) (lastToken (decode (now (session .entry)) .entries)) ⌝ }
@@ -172,7 +172,7 @@ pub(crate) fn remove(session: &mut [u8], place: usize, token: PendingMessageToke
     area::put_u16(session, COUNT_AT, h.count - 1);
 }
 
-// No entry, and no token handed out.
+// SCOPE 4.5: no entry, and no token handed out.
 pub(crate) fn restart(session: &mut [u8])
     requires { ⌜ IsArea (now session) ⌝ }
     ensures { λ _. ⌜ now (session .exit) ≡ encode (emptied (decode (now (session .entry)))) ⌝ }

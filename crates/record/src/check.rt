@@ -292,7 +292,7 @@ fn held_field_ok(s: &[u8]) -> bool
     held_ok(&s[1..])
 }
 
-// Whether the bytes are the area of a session.
+// SCOPE 6.4: whether the bytes are the area of a session.
 pub fn session_ok(session: &[u8]) -> bool
     ensures { λ r. ⌜ r ≡ (eqb (length (now (session .entry))) AREA && sessionOk (now (session .entry))) ⌝ }
 {

@@ -235,7 +235,7 @@ pub fn put_no_held(s: &mut [u8], at: usize)
 
 // ---- a fresh session
 
-// Makes the area that of a fresh session, and says so; an area of another size is left as it is.
+// SCOPE 7.2: makes the area that of a fresh session, and says so; an area of another size is left as it is.
 pub fn fresh(session: &mut [u8]) -> bool
     ensures { λ r. ⌜ (r ≡ eqb (length (now (session .entry))) AREA) × (now (session .exit) ≡ pick (eqb (length (now (session .entry))) AREA) (encode freshSession) (now (session .entry))) ⌝ }
 {

@@ -153,7 +153,7 @@ fn open(
     block: &[u8],
 ) -> Differs {
     let lent = result_of(byte_at(r, 20), u64_at(r, 21));
-    let o = message::open(
+    let o = message::process_message::lend_result(
         session,
         answers,
         state,

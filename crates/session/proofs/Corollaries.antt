@@ -19,6 +19,7 @@ use Rattle.session.specs.Corollaries.{earliest, before, NeverLate, NoHis
 use Rattle.session.proofs.Lists.{All}
 use Rattle.session.proofs.Queue.{Done, Stack, base, push, noteOf, eventOf, dones, bottom, openedOf, Wf}
 use Rattle.session.proofs.Steps.{Paper, view}
+use Rattle.session.proofs.Kept.{Keeps}
 use Rattle.session.proofs.Runs.{start-fine, areaOf, start-area, Ran, run-fine}
 
 -- ---- what the state after any calls is
@@ -30,9 +31,10 @@ pub record Reached (st : State) : Type 0 where
   pub p : Option Press
   pub outcomes : List Outcome
   pub wf : Wf c h stack
+  pub keeps : Keeps (view stack h c p .session)
   pub same : st ≡ areaOf (view stack h c p) outcomes
 
-reached : (cs : List Call) → CallsInRange cs → Reached (run start cs)
+pub reached : (cs : List Call) → CallsInRange cs → Reached (run start cs)
 reached cs r =
     let ran : Ran _ [] cs = run-fine cs _ [] start-fine r in
     let g = ran .fine .inv in
@@ -43,6 +45,7 @@ reached cs r =
       p = g .p;
       outcomes = ran .outcomes;
       wf = g .wf;
+      keeps = subst (λ (x : Paper). Keeps (x .session)) (g .same) (ran .fine .keeps);
       same = ap (λ (x : State). run x cs) start-area ∙ ran .same ∙ ap (λ (x : Paper). areaOf x (ran .outcomes)) (g .same);
     }
 

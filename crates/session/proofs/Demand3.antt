@@ -1,4 +1,4 @@
--- Demand 3: specs/Demand3.antt has the statement.
+-- Demand 3 (SCOPE 1.3): specs/Demand3.antt has the statement.
 -- Assumes nothing.
 use mathlib.Core.Path.{_≡_, refl, ap, sym, _∙_, subst}
 use mathlib.Core.Bool.{true}
@@ -31,7 +31,7 @@ use Rattle.session.proofs.Rising.{run-noted, start-noted}
 -- ---- one closing
 
 -- the latest message's token passes question 10
-latest-passes :
+pub latest-passes :
     (S : Stack) (t h c : ℕ) (a : Arrival) (D : List Done) (p : Option Press) (i : Inputs) (pk : Option Message) →
     firstNo (sessionQuestions (view (push S t a D) h c p .session) (finished i t pk)) ≡ none
 unfolding firstNo sessionQuestions question10 messageQuestions finishQuestions

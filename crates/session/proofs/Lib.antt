@@ -15,3 +15,5 @@ pub mod Demand3
 pub mod Premises
 pub mod Refuted
 pub mod Corollaries
+pub mod Refusals
+pub mod HandedOut

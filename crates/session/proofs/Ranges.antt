@@ -119,7 +119,7 @@ dead-scalar : (c : ℕ) → KeyFits (deadChar c) → scalar c ≡ true
 unfolding fullKeyFits bareOf keyFits keyNumber
 dead-scalar c e = and-eq-true-iff (scalar c) _ .0 e .0
 
--- "A dead key without modifiers becomes its character": one to four bytes
+-- SCOPE 3.16: a dead key without modifiers becomes its character, one to four bytes
 pub undead-fits : (k : FullKey) → KeyFits k → KeyFits (undead k)
 unfolding undead
 undead-fits (named n) e = e

@@ -13,7 +13,7 @@ use borrow.Author.Tests.{eq-eqb}
 use Rattle.area.specs.Bytes.{Bytes}
 use Rattle.area.specs.Look.{assoc}
 use Rattle.lookup.specs.LParam.{keyLParam, virtualKey}
-use Rattle.lookup.proofs.keyboard_layout.Ranges.{vkey-small, scan-small}
+use Rattle.lookup.proofs.keyboard_layout.Ranges.{vkey-small, scan-small, repeat-of}
 use Rattle.session.specs.Limits.{AREA, KEYS}
 use Rattle.session.specs.Given.{Message, Inputs, Given, brought, finished, WM-KEYDOWN}
 use Rattle.session.specs.Event.{Event}
@@ -385,9 +385,9 @@ early-hands i y wparam = refl
 
 -- the repeat bit tells the two presses' events apart
 repeats-differ : (i : Inputs) (y : List ℕ) (wparam : ℕ) → pressEvent (pressOf i (inner i y wparam)) ≡ pressEvent (pressOf i (outer i y wparam)) → ⊥
-unfolding pressEvent finalize heldOf fromMessage keyLParam
+unfolding pressEvent finalize heldOf fromMessage
 repeats-differ i y wparam e =
-    let r : true ≡ false = ap (λ (x : Event). x .repeat) e in
+    let r : true ≡ false = sym (repeat-of (inner i y wparam .lparam)) ∙ ap (λ (x : Event). x .repeat) e ∙ repeat-of (outer i y wparam .lparam) in
     let z : _≡_ {A = ℕ} 0 1 = cc in omega arith
 
 pub early-refuted :

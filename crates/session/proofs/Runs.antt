@@ -83,14 +83,14 @@ not-four true false c n qs k e = λ f. let h : 2 ≡ n = cc in omega arith
 not-four true true false n qs k e = λ f. let h : 3 ≡ n = cc in omega arith
 not-four true true true n qs k e = λ f. omega (arith, first-above n 4 qs k e)
 
-passed : (a b c : Bool) (qs : List (ℕ × Bool)) → firstNo ((1, a) ∷ (2, b) ∷ (3, c) ∷ (4, true) ∷ qs) ≡ none → (c ≡ true) × (firstNo qs ≡ none)
+pub passed : (a b c : Bool) (qs : List (ℕ × Bool)) → firstNo ((1, a) ∷ (2, b) ∷ (3, c) ∷ (4, true) ∷ qs) ≡ none → (c ≡ true) × (firstNo qs ≡ none)
 unfolding firstNo
 passed false b c qs e = (cc, cc)
 passed true false c qs e = (cc, cc)
 passed true true false qs e = (cc, cc)
 passed true true true qs e = (refl, e)
 
-inputs-ok : (g : Given) → Bytes (inputsOf g .block) → question3 g ≡ true → KeyboardOk (keyboardOf (inputsOf g))
+pub inputs-ok : (g : Given) → Bytes (inputsOf g .block) → question3 g ≡ true → KeyboardOk (keyboardOf (inputsOf g))
 unfolding question3
 inputs-ok g bytes e = keyboard-ok (inputsOf g) bytes e
 
@@ -131,7 +131,7 @@ answered-next q os g f i e =
         subst (λ (x : Paper). Good (done x g (effectOf (x .session) g))) (sym (v .same))
         (call-good (v .stack) (v .h) (v .c) (v .p) g (v .wf) (subst (λ (x : Paper). firstNo (sessionQuestions (x .session) g) ≡ none) (v .same) e))
 
--- "A refused call .. change[s] nothing", but for the list of outcomes
+-- SCOPE 7.6: a refused call changes nothing, but for the list of outcomes
 refused-next : (q : Paper) (os : List Outcome) (g : Given) (n : ℕ) → joined (areaOf q os) g (outcomeBy (some n) (q .session) g) ≡ areaOf q (os ++ (refused n ∷ []))
 unfolding joined outcomeBy bookStep
 refused-next q os g n = refl

@@ -29,17 +29,17 @@ freshArea = replicate {A = ℕ} AREA 0
 
 -- ---- a call, by numbers
 
--- "A no ends the call with that number": refused, or the token of the message that was opened and both areas after
+-- SCOPE 6.0: refused with a number, or the token of the message that was opened and both areas after
 pub data Outcome : Type 0 where
   refused : ℕ → Outcome
   answered : Option ℕ → List ℕ → List ℕ → Outcome
 
--- "1 to 4 are put to every call, 5 to 9 to calls that bring a message, 10 to finishes."
+-- SCOPE 6.11: 1 to 4 are put to every call, 5 to 9 to calls that bring a message, 10 to finishes
 unfoldable pub questions : List ℕ → List ℕ → Given → List (ℕ × Bool)
 questions x y g =
     (1, question1 x y) ∷ (2, question2 g) ∷ (3, question3 g) ∷ (4, sessionOk x) ∷ sessionQuestions (decode x) g
 
--- "Answered calls write the events, zeros behind them."
+-- SCOPE 6.0: an answered call writes its events, zeros behind them
 unfoldable pub outcomeBy : Option ℕ → Session → Given → Outcome
 outcomeBy (some n) s g = refused n
 outcomeBy none s g =
@@ -50,7 +50,7 @@ outcomeOf x y g = outcomeBy (firstNo (questions x y g)) (decode x) g
 
 -- ---- the public calls
 
--- document 01's number of a refusal
+-- SCOPE 6.1 to 6.10: the number of a refusal
 unfoldable pub refusalNumber : Refusal → ℕ
 refusalNumber no.AreaSize = 1
 refusalNumber no.KeyStateSize = 2
@@ -63,7 +63,7 @@ refusalNumber no.TokensUsed = 8
 refusalNumber no.TooManyUnits = 9
 refusalNumber no.NotLatest = 10
 
--- what an answer says in document 01's terms: a refusal's number, or the token that was opened, or none
+-- SCOPE 6.0: what an answer says: a refusal's number, or the token that was opened, or none
 pub data Said : Type 0 where
   refusal : ℕ → Said
   token : ℕ → Said
@@ -82,8 +82,8 @@ finishSaid f.Finished = noToken
 abbrev pub zeroResult : ℤ
 zeroResult = pos 0
 
--- "`result` is .. set in it when a message opens: default procedure for 104, else value 0. Focus and unhandled kinds don't touch it; 103 and
--- 107 set value 0." "102 and 106 with no held press: nothing done, `result` kept."
+-- SCOPE 3.3: what opens sets it, to the default procedure's for 104, else to value 0; focus and unhandled kinds leave it, 103 and 107 set
+-- value 0. SCOPE 3.2, 3.9: what is ignored leaves it.
 unfoldable pub resultBy : Sort → Session → Message → ProcResult → ProcResult
 resultBy keyDown s m r = pick (eqb (m .kind) WM-SYSKEYDOWN) DefWindowProc (Value zeroResult)
 resultBy keyUp s m r = Value zeroResult
@@ -103,7 +103,7 @@ abbrev pub saidToken : Option ℕ → Said
 saidToken none = noToken
 saidToken (some t) = token t
 
--- "both areas and `result` keep what they had"
+-- SCOPE 6.0: where a call is refused, both areas and `result` keep what they had
 unfoldable pub leftBy : Outcome → List ℕ → List ℕ → ProcResult → ProcResult → Left
 leftBy (refused n) x y r r' = record { said = refusal n; result = r; session = x; answers = y }
 leftBy (answered t x' y') x y r r' = record { said = saidToken t; result = r'; session = x'; answers = y' }

@@ -165,7 +165,7 @@ encode s = session .put s
 unfoldable pub decode : List ℕ → Session
 decode x = session .get x
 
--- question 4: "Is the session area that of a session?"
+-- SCOPE 6.4: the session area is that of a session
 unfoldable pub sessionOk : List ℕ → Bool
 sessionOk x = session .ok x && inOrder (decode x)
 

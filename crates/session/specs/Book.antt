@@ -1,4 +1,5 @@
--- "The book for demand 3". It is fed each call's arguments without the areas, and whether the call was refused; of the answers it sees nothing.
+-- The book for demand 3 (SCOPE 7.5). It is fed each call's arguments without the areas, and whether the call was refused; of the answers it
+-- sees nothing.
 -- With the calls it shares what makes events and fakes (Builder, Focus), and nothing that decides what is held, open, ignored or queued.
 -- Assumes nothing.
 use Prim.Native.Nat.{ℕ, suc}
@@ -34,7 +35,7 @@ pub record Note : Type 0 where
   pub number : ℕ
   pub event : Event
 
--- "It keeps the open messages, the held press, a count of arrivals and the events noted"
+-- SCOPE 7.5: the open messages, the held press, a count of arrivals, the events noted
 pub record Book : Type 0 where
   -- the latest first
   pub opened : List Arrival
@@ -43,11 +44,11 @@ pub record Book : Type 0 where
   -- by rising number
   pub noted : List Note
 
--- "at first there are none"
+-- SCOPE 7.5: at first there are none
 unfoldable pub emptyBook : Book
 emptyBook = record { opened = []; held = none; count = 0; noted = [] }
 
--- ---- kinds of messages, as document 01 lists them
+-- ---- kinds of messages, as SCOPE 2.3 and 7.6 to 7.10 list them
 
 abbrev pub pressKind : ℕ → Bool
 pressKind k = eqb k 0x100 || eqb k 0x104
@@ -61,7 +62,7 @@ characterKind k = eqb k 0x102 || eqb k 0x106
 abbrev pub deadCharacterKind : ℕ → Bool
 deadCharacterKind k = eqb k 0x103 || eqb k 0x107
 
--- "104 with the whole wParam 73 (F4) does nothing"
+-- SCOPE 3.2: 104 with the whole wParam 73 (F4) does nothing
 abbrev pub closesWindow : Message → Bool
 closesWindow m = eqb (m .kind) 0x104 && eqb (m .wparam) 0x73
 
@@ -94,28 +95,28 @@ heldIn (some q) = some (heldPress q)
 
 -- ---- a message
 
--- "Every other message takes the next number." "A kind that opens goes last among the open"
+-- SCOPE 7.6: it takes the next number. SCOPE 7.7: what opens goes last among the open
 unfoldable pub bookOpen : Book → Inputs → Message → Option Press → Book
 bookOpen b i m h =
     record { opened = record { number = b .count; inputs = i; message = m } ∷ b .opened; held = h; count = suc (b .count); noted = b .noted }
 
--- "102 and 106 also add their units to the held press"; without one the message is ignored
+-- SCOPE 7.7: 102 and 106 also add their units to the held press; without one the message is ignored
 unfoldable pub bookCharacter : Book → Inputs → Message → Option Press → Book
 bookCharacter b i m none = b
 bookCharacter b i m (some h) =
     bookOpen b i m (some (record { inputs = h .inputs; message = h .message; units = h .units ++ charUnits (m .wparam) }))
 
--- "103, 107: the held press's event is noted under the message's number; nothing is held"; "with no press held [they] change nothing"
+-- SCOPE 7.8: the held press's event is noted under the message's number, and nothing is held. SCOPE 7.6: with none held nothing changes
 unfoldable pub bookDeadCharacter : Book → Option Press → Book
 bookDeadCharacter b none = b
 bookDeadCharacter b (some h) =
     record { opened = b .opened; held = none; count = suc (b .count); noted = noteIn (b .count) (deadCharEvent (heldPress h)) (b .noted) }
 
--- "7, 8: the events are noted under the message's number, in the order above."
+-- SCOPE 7.9: the events of a focus change, under the message's number
 unfoldable pub bookFocus : Book → List Event → Book
 bookFocus b es = record { opened = b .opened; held = b .held; count = suc (b .count); noted = noteAll (b .count) es (b .noted) }
 
--- "an ignored message .. change[s] nothing"
+-- SCOPE 7.6: an ignored message changes nothing
 unfoldable pub bookMessage : Book → Inputs → Message → Book
 bookMessage b i m =
     pick (closesWindow m) b
@@ -126,49 +127,49 @@ bookMessage b i m =
 
 -- ---- a finish
 
--- "A peeked kind other than 100, 101, 104, 105"
+-- SCOPE 3.5: a peeked kind other than 100, 101, 104, 105
 unfoldable pub makesHeld : Option Message → Bool
 makesHeld none = false
 makesHeld (some m) = not (pressKind (m .kind) || releaseKind (m .kind))
 
--- "If the peeked kind is 102 or 106 more is coming"
+-- SCOPE 3.10: where the peeked kind is 102 or 106 more is coming
 unfoldable pub moreToCome : Option Message → Bool
 moreToCome none = false
 moreToCome (some m) = characterKind (m .kind)
 
--- "its event is noted under its number unless fake"
+-- SCOPE 7.10: an event is noted under its number unless fake
 unfoldable pub noteUnless : Bool → ℕ → Event → List Note → List Note
 noteUnless isFake n e l = pick isFake l (noteIn n e l)
 
 -- `os`: the others that are open.
--- "A press: nothing is held; if what was peeked makes this press the held one, it is, else its event is noted under its number unless fake."
+-- SCOPE 7.10, a press: it is held where what was peeked says so; else nothing is, and its event is noted under its number unless fake
 unfoldable pub finishPress : Book → List Arrival → Arrival → Inputs → Option Message → Book
 finishPress b os a i p =
     pick (makesHeld p)
     (record { opened = os; held = some (record { inputs = i; message = a .message; units = [] }); count = b .count; noted = b .noted })
     (record { opened = os; held = none; count = b .count; noted = noteUnless (fake (keyboardOf i) (infoOf i (a .message)) p) (a .number) (pressEvent (pressOf i (a .message))) (b .noted) })
 
--- "A release: its event is noted under its number unless fake.": made from what its open brought, the fake test by the finish's block
+-- SCOPE 7.10, a release; SCOPE 3.4: made from what its open brought, the fake test by the finish's block
 unfoldable pub finishRelease : Book → List Arrival → Arrival → Inputs → Option Message → Book
 finishRelease b os a i p =
     record { opened = os; held = b .held; count = b .count; noted = noteUnless (fake (keyboardOf i) (infoOf (a .inputs) (a .message)) p) (a .number) (releaseEvent (infoOf (a .inputs) (a .message))) (b .noted) }
 
--- "A character: if more is coming or no press is held, nothing; else the held press's event is noted under the character's number and nothing
--- is held."
+-- SCOPE 7.10, a character: nothing if more is coming or no press is held; else the held press's event is noted under the character's number,
+-- and nothing is held
 unfoldable pub finishCharacter : Bool → Option Press → Book → List Arrival → ℕ → Inputs → Book
 finishCharacter true h b os n i = record { opened = os; held = h; count = b .count; noted = b .noted }
 finishCharacter false none b os n i = record { opened = os; held = none; count = b .count; noted = b .noted }
 finishCharacter false (some h) b os n i =
     record { opened = os; held = none; count = b .count; noted = noteIn n (charEvent (keyboardOf i) (heldPress h)) (b .noted) }
 
--- "A finish takes out the last open message."
+-- SCOPE 7.10: a finish takes out the last open message
 unfoldable pub bookFinish : Book → Inputs → Option Message → List Arrival → Book
 bookFinish b i p [] = b
 bookFinish b i p (a ∷ os) =
     pick (pressKind (a .message .kind)) (finishPress b os a i p)
     (pick (releaseKind (a .message .kind)) (finishRelease b os a i p) (finishCharacter (moreToCome p) (b .held) b os (a .number) i))
 
--- ---- a call: "A refused call .. change[s] nothing."
+-- ---- a call. SCOPE 7.6: a refused one changes nothing
 unfoldable pub bookStep : Bool → Book → Given → Book
 bookStep true b g = b
 bookStep false b (brought i m) = bookMessage b i m

@@ -53,7 +53,7 @@ plainKey b vkey scancode = getKey (b .layout) 0 false vkey scancode (keyCodeOf s
 
 -- ---- from_message
 
--- "With Control on, the codes NumLock and Pause are the keys of those names, as logical key and without modifiers, in presses and releases."
+-- SCOPE 3.7: with Control down the codes NumLock and Pause are the keys of those names, as logical key and without modifiers
 unfoldable pub codeAsKey : Bool → KeyCode → Option FullKey
 codeAsKey false c = none
 codeAsKey true c =
@@ -62,7 +62,7 @@ codeAsKey true c =
 unfoldable pub forcedKey : Keyboard → ℕ → Option FullKey
 forcedKey b scancode = codeAsKey (modifiersIn b .control) (keyCodeOf scancode)
 
--- "A dead key without modifiers becomes its character (unidentified if it has none) in a press or release"
+-- SCOPE 3.16: a dead key without modifiers becomes its character in a press or release, unidentified where it has none
 unfoldable pub undead : FullKey → FullKey
 undead (named n) = named n
 undead (character t) = character t
@@ -89,7 +89,7 @@ isCharacter (unidentified c) = false
 isCharacter dead = false
 isCharacter (deadChar c) = false
 
--- a press's typed text may become its logical key: the layout's answer is a character and Control is off
+-- SCOPE 3.13: a press's typed text may become its logical key where the layout's answer is a character and Control is off
 -- (NumLock and Pause are forced only with Control on)
 unfoldable pub markOf : Keyboard → Info → Bool
 markOf b n = isCharacter (n .logicalKey) && not (modifiersIn b .control)
@@ -105,13 +105,13 @@ withUnits h us = record { info = h .info; vkey = h .vkey; mark = h .mark; units 
 
 -- ---- finalize
 
--- "Unpaired surrogates give no text", and no unit gives none
+-- SCOPE 3.12: unpaired surrogates give no text, and no unit gives none
 unfoldable pub typedText : List ℕ → Option (List ℕ)
 typedText [] = none
 typedText (u ∷ us) = textOf (u ∷ us)
 
--- "A typed character becomes the logical key unless it has several pieces; then the layout key stands."
--- Without a text the key is unidentified, with its scan code.
+-- SCOPE 3.13: a typed text becomes the logical key unless it has several pieces; then the layout's key stands.
+-- SCOPE 3.6: without a text the key is unidentified, with its scan code.
 unfoldable pub typedKey : FullKey → ℕ → Option (List ℕ) → FullKey
 typedKey layout scancode none = unidentified (native.Windows scancode)
 typedKey layout scancode (some t) = pick (severalIn t) layout (character t)
@@ -139,17 +139,17 @@ pressEvent h = finalize h none none
 unfoldable pub deadCharEvent : Held → Event
 deadCharEvent h = finalize h none (typedText (h .units))
 
--- "At the last character, Control counts only without Alt on AltGr layouts."
+-- SCOPE 3.11: at the last character Control counts, on AltGr layouts only without Alt
 unfoldable pub controlCounts : Keyboard → Bool
 controlCounts b =
     pick (b .layout .hasAltGraph) (modifiersIn b .control && not (modifiersIn b .alt)) (modifiersIn b .control)
 
--- "If it counts, text comes from the layout with Control removed (unless Alt is on)."
+-- SCOPE 3.11: where it counts, the text comes from the layout, Control removed unless Alt is down
 unfoldable pub lastText : Keyboard → Held → Option (List ℕ)
 lastText b h =
     pick (controlCounts b) (toText (layoutKey b (h .vkey) (h .info .scancode))) (typedText (h .units))
 
--- the event that the last character message completes: "Text with all modifiers is the typed units"
+-- the event that the last character message completes. SCOPE 3.12: the text with all modifiers is the typed units'
 unfoldable pub charEvent : Keyboard → Held → Event
 charEvent b h = finalize h (lastText b h) (typedText (h .units))
 
@@ -177,7 +177,7 @@ isControl (unidentified c) = false
 isControl dead = false
 isControl (deadChar c) = false
 
--- "Fake means: AltGr flag set, logical key Control, next scan code E038, read from the peeked lParam alone."
+-- SCOPE 3.8: the AltGr flag, the logical key Control, and the next scan code E038, read from the peeked lParam alone
 unfoldable pub fake : Keyboard → Info → Option Message → Bool
 fake b n none = false
 fake b n (some m) = b .layout .hasAltGraph && (isControl (n .logicalKey) && eqb (exScancodeOf (m .lparam)) 0xE038)

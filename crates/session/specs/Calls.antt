@@ -24,7 +24,7 @@ pub data Sort : Type 0 where
   keyDown keyUp char deadChar ignored : Sort
   focus : ElementState → Sort
 
--- "104 with the whole wParam 73 (F4) does nothing"
+-- SCOPE 3.2: 104 with the whole wParam 73 (F4) does nothing
 unfoldable pub sortOf : Message → Sort
 sortOf m =
     assoc
@@ -58,7 +58,7 @@ unfoldable pub numbered : ℕ → List Event → List Entry
 numbered t [] = []
 numbered t (e ∷ r) = complete t e ∷ numbered (suc t) r
 
--- events at the end of the queue, straight out of an empty one (complete_multi)
+-- SCOPE 4.4: events at the end of the queue, straight out of an empty one (complete_multi)
 unfoldable pub behind : Session → List Event → Option Held → List Entry → Effect
 behind s es h [] = record { token = none; events = es; after = record { handed = s .handed; entries = []; held = h } }
 behind s es h (x ∷ r) =
@@ -68,7 +68,7 @@ behind s es h (x ∷ r) =
       after = record { handed = s .handed + length es; entries = (x ∷ r) ++ numbered (s .handed) es; held = h };
     }
 
--- "102 and 106 with no held press: nothing done"
+-- SCOPE 3.9: 102 and 106 with no held press do nothing
 unfoldable pub charOpened : Session → Message → Option Held → Effect
 charOpened s m none = nothingDone s
 charOpened s m (some h) = opening s character (some (withUnits h (charUnits (m .wparam))))
@@ -88,12 +88,12 @@ messageEffect s b m ignored = nothingDone s
 
 -- ---- a finish
 
--- "A peeked kind other than 100, 101, 104, 105 makes this press the held one"; nothing peeked does not
+-- SCOPE 3.5: a peeked kind other than 100, 101, 104, 105 makes this press the held one; nothing peeked does not
 unfoldable pub holds : Option Message → Bool
 holds none = false
 holds (some m) = assoc ((WM-KEYDOWN, false) ∷ (WM-KEYUP, false) ∷ (WM-SYSKEYDOWN, false) ∷ (WM-SYSKEYUP, false) ∷ []) true (m .kind)
 
--- "If the peeked kind is 102 or 106 more is coming"
+-- SCOPE 3.10: where the peeked kind is 102 or 106 more is coming
 unfoldable pub moreComing : Option Message → Bool
 moreComing none = false
 moreComing (some m) = assoc ((WM-CHAR, true) ∷ (WM-SYSCHAR, true) ∷ []) false (m .kind)
@@ -113,7 +113,7 @@ finishHeld b h (release n) p = h
 finishHeld b none character p = none
 finishHeld b (some h) character p = pick (moreComing p) (some h) none
 
--- "the search for a token stops at the first entry that carries it"
+-- SCOPE 4.1: the search for a token stops at the first entry that carries it
 abbrev pub waitIn : Entry → Option Wait
 waitIn (waiting t w) = some w
 waitIn (complete t e) = none
@@ -122,7 +122,7 @@ unfoldable pub findWait : ℕ → List Entry → Option Wait
 findWait t [] = none
 findWait t (x ∷ r) = pick (eqb t (tokenOf x)) (waitIn x) (findWait t r)
 
--- its entry completed, or dropped where there is no event
+-- SCOPE 4.2: its entry completed, or dropped where there is no event
 unfoldable pub inPlace : ℕ → Option Event → List Entry → List Entry
 inPlace t none r = r
 inPlace t (some e) r = complete t e ∷ r
@@ -141,8 +141,8 @@ drain [] = []
 drain (waiting t w ∷ r) = drain r
 drain (complete t e ∷ r) = e ∷ drain r
 
--- "Resolving the first entry, by completing or dropping it, empties the queue and hands out the completed ones; any other completed entry
--- waits." "Token numbers restart when the queue empties."
+-- SCOPE 4.3: resolving the first entry, by completing or dropping it, empties the queue and hands out the completed events; any other completed
+-- entry waits. SCOPE 4.5: token numbers restart when the queue empties.
 unfoldable pub resolved : Bool → Session → ℕ → Option Event → Option Held → Effect
 resolved true s t o h =
     record { token = none; events = drain (resolve t o (s .entries)); after = record { handed = 0; entries = []; held = h } }

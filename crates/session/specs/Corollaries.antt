@@ -22,14 +22,14 @@ before o [] = []
 before none (x ∷ r) = x .event ∷ before none r
 before (some n) (x ∷ r) = pick (ltb (x .number) n) (x .event ∷ []) [] ++ before (some n) r
 
--- "An event waits from its noting until a call hands it out": and it waits for nothing but an earlier open message.
+-- SCOPE 7.11: an event waits from its noting until a call hands it out; and it waits for nothing but an earlier open message.
 abbrev pub NeverLate : Type 0
 NeverLate =
     (cs : List Call) → CallsInRange cs →
     let st : State = run start cs in st .out ≡ before (earliest (st .book .opened)) (st .book .noted)
 
--- "An entry history would break my retention rule, so no trace of typing may stay": with nothing open and the same press held, or none, the
--- session area is the same byte for byte, whatever was typed.
+-- SCOPE 1.3: no trace of typing may stay. With nothing open and the same press held, or none, the session area is the same byte for byte,
+-- whatever was typed.
 abbrev pub NoHistory : Type 0
 NoHistory =
     (cs ds : List Call) → CallsInRange cs → CallsInRange ds →

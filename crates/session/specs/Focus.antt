@@ -18,7 +18,7 @@ use Rattle.session.specs.Builder.{Keyboard, plainKey}
 use Rattle.session.specs.declared.ElementState.{ElementState}
 use Rattle.session.specs.declared.ElementState.the-variants.{Pressed, Released}
 
--- "LCONTROL, LSHIFT, LMENU, RCONTROL, RSHIFT, RMENU"
+-- SCOPE 3.14: LCONTROL, LSHIFT, LMENU, RCONTROL, RSHIFT, RMENU
 unfoldable pub modifierKeys : List ℕ
 modifierKeys = 0xA2 ∷ 0xA0 ∷ 0xA4 ∷ 0xA3 ∷ 0xA1 ∷ 0xA5 ∷ []
 
@@ -38,7 +38,7 @@ unfoldable pub othersFrom : ℕ → ℕ → List ℕ
 othersFrom zero vk = []
 othersFrom (suc m) vk = pick (isOther vk) (vk ∷ []) [] ++ othersFrom m (vk + 1)
 
--- "Caps Lock (14) is first in both. Gain: the other keys ascending, then LCONTROL, ..; loss: those six, then the others."
+-- SCOPE 3.14: Caps Lock (14) first in both; at gain the others ascending, then the six; at loss the six, then the others
 unfoldable pub focusKeys : ElementState → List ℕ
 focusKeys Pressed = VK-CAPITAL ∷ (othersFrom KEYS 0 ++ modifierKeys)
 focusKeys Released = VK-CAPITAL ∷ (modifierKeys ++ othersFrom KEYS 0)
@@ -48,12 +48,12 @@ unfoldable pub focusKey : Keyboard → ℕ → ℕ → FullKey
 focusKey b vk scancode =
     getKey (b .layout) (pick (capsLockOn (b .keyState)) 8 0) (numLockOn (b .keyState)) vk scancode (keyCodeOf scancode)
 
--- "Text with all modifiers .. in a focus event it equals the text, which is the logical key's character on gain and none on loss."
+-- SCOPE 3.12: the text, which the text with all modifiers equals, is the logical key's character at gain and none at loss
 unfoldable pub focusText : ElementState → FullKey → Option (List ℕ)
 focusText Pressed k = toText k
 focusText Released k = none
 
--- a dead key without modifiers "stays dead in a focus event"
+-- SCOPE 3.16: a dead key without modifiers stays dead
 unfoldable pub syntheticEvent : Keyboard → ElementState → ℕ → ℕ → Event
 syntheticEvent b st vk scancode =
     record {
@@ -68,7 +68,7 @@ syntheticEvent b st vk scancode =
       keyWithoutModifiers = plainKey b vk scancode;
     }
 
--- "for bytes with bit 7"; "keys without scan code" are skipped
+-- SCOPE 3.14: keys whose byte has bit 7, but for those without a scan code
 unfoldable pub written : Keyboard → ℕ → Bool
 written b vk = down (b .keyState) vk && not (eqb (scanCodeFor (b .layout) vk) 0)
 
@@ -77,6 +77,6 @@ syntheticEvents b st [] = []
 syntheticEvents b st (vk ∷ vks) =
     pick (written b vk) (syntheticEvent b st vk (scanCodeFor (b .layout) vk) ∷ []) [] ++ syntheticEvents b st vks
 
--- "Focus gain writes presses, loss writes releases"
+-- SCOPE 3.14: a gain writes presses, a loss releases
 unfoldable pub focusEvents : Keyboard → ElementState → List Event
 focusEvents b st = syntheticEvents b st (focusKeys st)

@@ -10,12 +10,12 @@ pub record Message : Type 0 where
   pub wparam : ℕ
   pub lparam : ℕ
 
--- "Each half also takes 256 key-state bytes and a layout block."
+-- SCOPE 2.2: each half also takes the key state, 256 bytes, and a layout block
 pub record Inputs : Type 0 where
   pub keyState : List ℕ
   pub block : List ℕ
 
--- "open takes a message, finish takes the peeked message or its absence", with the token of the message to finish
+-- SCOPE 2.2: an open takes a message, a finish the token of an open message and the peeked message or its absence
 pub data Given : Type 0 where
   brought : Inputs → Message → Given
   finished : Inputs → ℕ → Option Message → Given

@@ -14,3 +14,4 @@ pub mod Book
 pub mod Run
 pub mod Demand3
 pub mod Corollaries
+pub mod Refusals

@@ -3,7 +3,7 @@
 use Prim.Native.Nat.{ℕ}
 use Rattle.lookup.specs.Sizes.{ENTRY-TEXT-MOST}
 
--- ---- the limits of document 01
+-- ---- the limits of SCOPE 6.1 to 6.9
 
 -- bytes of the session area and of the answer area
 abbrev pub AREA : ℕ

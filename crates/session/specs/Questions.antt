@@ -1,4 +1,4 @@
--- The questions each call is put through, each under its number. A question that is not put to a call is passed.
+-- The questions that a call is put through (SCOPE 6), each under its number. A question that is not put to a call is passed.
 -- Assumes nothing.
 use Prim.Native.Nat.{ℕ, _+_}
 use mathlib.Core.Bool.{Bool, true, false, _&&_}
@@ -36,7 +36,7 @@ abbrev pub behindSome : List Entry → ℕ → ℕ
 behindSome [] n = 0
 behindSome (x ∷ r) n = n
 
--- how many entries, and so many tokens, it needs: "Focus on an empty queue needs no entry or token."
+-- how many entries, and so many tokens, it needs. SCOPE 6.11: focus on an empty queue needs none
 unfoldable pub newEntries : Session → Keyboard → Sort → ℕ
 newEntries s b keyDown = 1
 newEntries s b keyUp = 1
@@ -71,19 +71,19 @@ isToken t (some u) = eqb t u
 
 -- ---- the questions
 
--- "1. Are both areas exactly 65,536 bytes?"
+-- SCOPE 6.1: both areas are exactly 65,536 bytes
 unfoldable pub question1 : List ℕ → List ℕ → Bool
 question1 x y = eqb (length x) AREA && eqb (length y) AREA
 
--- "2. Are there 256 key-state bytes?"
+-- SCOPE 6.2: there are 256 key-state bytes
 unfoldable pub question2 : Given → Bool
 question2 g = eqb (length (inputsOf g .keyState)) KEYS
 
--- "3. Is the block at most 65,536 bytes and laid out as docs/AREAS.md says, ..?"
+-- SCOPE 6.3: the block is at most 65,536 bytes and laid out as docs/AREAS.md says
 unfoldable pub question3 : Given → Bool
 question3 g = blockOk (inputsOf g .block)
 
--- "5. For 103 and 107: is a press held?"
+-- SCOPE 6.5: for 103 and 107, a press is held
 unfoldable pub question5 : Session → Sort → Bool
 question5 s deadChar = isHeld (s .held)
 question5 s keyDown = true
@@ -92,23 +92,23 @@ question5 s char = true
 question5 s (focus st) = true
 question5 s ignored = true
 
--- "6. To open: are fewer than 8 open?"
+-- SCOPE 6.6: to open, fewer than 8 are open
 unfoldable pub question6 : Session → Sort → Bool
 question6 s k = pick (opens s k) (ltb (openCount (s .entries)) OPEN-MOST) true
 
--- "7. Do the new entries fit within 256?"
+-- SCOPE 6.7: the new entries fit within 256
 unfoldable pub question7 : Session → Keyboard → Sort → Bool
 question7 s b k = leb (length (s .entries) + newEntries s b k) ENTRIES-MOST
 
--- "8. Do the tokens since the queue was empty stay within 4,096?"
+-- SCOPE 6.8: the tokens since the queue was empty stay within 4,096
 unfoldable pub question8 : Session → Keyboard → Sort → Bool
 question8 s b k = leb (s .handed + newEntries s b k) TOKENS-MOST
 
--- "9. Do the held units stay within 16?"
+-- SCOPE 6.9: the held units stay within 16
 unfoldable pub question9 : Session → Message → Sort → Bool
 question9 s m k = leb (unitsAfter (s .held) m k) UNITS-MOST
 
--- "10. To finish: is the token that of the latest open message?"
+-- SCOPE 6.10: to finish, the token is that of the latest open message
 unfoldable pub question10 : Session → ℕ → Bool
 question10 s t = isToken t (lastToken (s .entries))
 
@@ -118,7 +118,7 @@ unfoldable pub firstNo : List (ℕ × Bool) → Option ℕ
 firstNo [] = none
 firstNo (q ∷ qs) = pick (q .1) (firstNo qs) (some (q .0))
 
--- "5 to 9 to calls that bring a message, 10 to finishes"
+-- SCOPE 6.11: 5 to 9 are put to calls that bring a message, 10 to finishes
 unfoldable pub messageQuestions : Session → Keyboard → Message → Sort → List (ℕ × Bool)
 messageQuestions s b m k =
     (5, question5 s k) ∷ (6, question6 s k) ∷ (7, question7 s b k) ∷ (8, question8 s b k) ∷ (9, question9 s m k) ∷ []

@@ -26,7 +26,7 @@ pub record State : Type 0 where
   pub out : List Event
   pub outcomes : List Outcome
 
--- from a fresh session
+-- SCOPE 1.3: from a fresh session
 unfoldable pub start : State
 start = record { area = freshArea; tokens = []; book = emptyBook; out = []; outcomes = [] }
 
@@ -80,7 +80,7 @@ abbrev pub ClosingsInRange : List Closing → Type 0
 ClosingsInRange [] = Unit {0}
 ClosingsInRange (k ∷ ks) = Bytes (k .inputs .block) × ClosingsInRange ks
 
--- "let what is open after the list be finished, latest first", each "with the token that its message's open returned"
+-- SCOPE 1.3, 7.4: what is open after the list is finished, the latest first, each with the token that its message's open returned
 unfoldable pub closings : List ℕ → List Closing → List Call
 closings [] ks = []
 closings (t ∷ ts) [] = []

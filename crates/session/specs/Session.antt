@@ -33,7 +33,7 @@ pub record Session : Type 0 where
   pub entries : List Entry
   pub held : Option Held
 
--- "A fresh session has nothing open, no entry, no held press and 0 tokens handed out."
+-- SCOPE 7.2: nothing open, no entry, no held press, no token handed out
 unfoldable pub freshSession : Session
 freshSession = record { handed = 0; entries = []; held = none }
 
@@ -47,8 +47,8 @@ openCount [] = 0
 openCount (waiting t w ∷ r) = suc (openCount r)
 openCount (complete t e ∷ r) = openCount r
 
--- ---- "A session: tokens strictly rising, below the number handed out; unresolved entries are the open messages in order; the first entry
--- unresolved; no entries and 0 handed out when nothing is open; limits kept."
+-- ---- SCOPE 6.4, a session: tokens strictly rising and below the number handed out; the unresolved entries are the open messages in order;
+-- the first entry is unresolved; no entries and no token handed out when nothing is open; the limits kept
 
 -- tokens strictly rising from lo, below hi
 unfoldable pub rising : ℕ → ℕ → List Entry → Bool
@@ -65,7 +65,7 @@ unfoldable pub unitsWithin : Option Held → Bool
 unitsWithin none = true
 unitsWithin (some h) = leb (length (h .units)) UNITS-MOST
 
--- document 01's sentence
+-- SCOPE 6.4, but for the ranges
 unfoldable pub inOrder : Session → Bool
 inOrder s =
     rising 0 (s .handed) (s .entries) && (firstOpen (s .handed) (s .entries) && (leb (openCount (s .entries)) OPEN-MOST && (leb (length (s .entries)) ENTRIES-MOST && (leb (s .handed) TOKENS-MOST && unitsWithin (s .held)))))
@@ -118,6 +118,6 @@ unfoldable pub entriesFit : List Entry → Bool
 entriesFit [] = true
 entriesFit (x ∷ r) = entryFits x && entriesFit r
 
--- a session: document 01's sentence, and each stored value of its type
+-- a session: SCOPE 6.4, and each stored value of its type
 unfoldable pub isSession : Session → Bool
 isSession s = inOrder s && (entriesFit (s .entries) && heldFits (s .held))

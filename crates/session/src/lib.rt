@@ -1,5 +1,5 @@
 // What the calls answer, as types: key events, the held press, tokens, message results, refusals. No code runs here;
-// specs/ says what open and finish answer.
+// specs/ says what open and finish answer. SCOPE and a number is a clause of docs/SCOPE.md.
 use keys::Key;
 use keys::KeyLocation;
 use keys::key_code::KeyCode;
@@ -101,10 +101,10 @@ pub enum ProcResult {
     Value(i64),
 }
 
-// tao's PendingMessageToken: a number of its own type, so that no place in the queue can be passed for it.
+// SCOPE 10.6: tao's PendingMessageToken, a number of its own type, so that no place in the queue can be passed for it.
 pub struct PendingMessageToken(pub u32);
 
-// Why a call is refused, in the order of document 01's questions.
+// SCOPE 6.1 to 6.10: why a call is refused, in the order of the questions.
 pub enum Refusal {
     AreaSize,
     KeyStateSize,

@@ -51,7 +51,7 @@ fn is_last(t: &[u8], i: usize, s: u32) -> bool
     }
 }
 
-// Whether a text has several pieces.
+// SCOPE 3.13: whether a text has several pieces.
 pub fn several_pieces(t: &[u8]) -> bool
     ensures { λ r. ⌜ r ≡ severalIn (now (t .entry)) ⌝ }
 {

@@ -55,7 +55,7 @@ fn append_scalar(out: &mut [u8; 48], at: usize, c: u32) -> usize
     at + len
 }
 
-// The text of some UTF-16 units, which are those of one key press.
+// SCOPE 3.12: the text of some UTF-16 units, which are those of one key press.
 pub fn utf16_text(units: &[u16]) -> Utf8Text
     requires { ⌜ length (now units) ≤ 16 ⌝ }
     ensures { λ r. ⌜ r ≡ stored (textOf (now (units .entry))) ⌝ }

@@ -1,4 +1,4 @@
-//! docs/AREAS.md in Rust, written from that page alone, and document 01's ten questions.
+//! docs/AREAS.md in Rust, written from that page alone, and the ten questions of docs/SCOPE.md, 6.
 pub mod block;
 pub mod event;
 mod fields;

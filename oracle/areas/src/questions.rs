@@ -1,4 +1,4 @@
-//! Document 01's ten questions, read plainly: the number of the first one that is answered with no.
+//! The ten questions of docs/SCOPE.md, 6, read plainly: the number of the first one that is answered with no.
 use crate::{
   block,
   fields::AREA,

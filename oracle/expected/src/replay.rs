@@ -10,7 +10,7 @@ mod seeded;
 
 use seeded::Seeded;
 
-/// A call, what `result` is before it, and the number with which document 01 refuses it. tao is not given a refused call.
+/// A call, what `result` is before it, and the number with which docs/SCOPE.md, 6, refuses it. tao is not given a refused call.
 #[derive(Clone)]
 pub struct Step {
   pub call: Call,

@@ -42,7 +42,7 @@ module _ (graph control alt : Bool) where
 
 module _ (block state : List ℕ) (h : HeldPress) where
   abbrev board : Keyboard
-  board = keyboardAt block state
+  board = keyboardAt state block
 
   pub counted :
       {mods mods′ : WindowsModifiers} {graph counts : Bool} (graph′ : Bool) → mods ≡ activeModifiers state →

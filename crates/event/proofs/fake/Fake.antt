@@ -42,7 +42,7 @@ control-as n c same =
 module _ (block : List ℕ) (n : PartialKeyEventInfo) (kind wparam lparam : ℕ) where
   abbrev Answers : Bool → Type 0
   Answers r =
-      (state : List ℕ) → r ≡ fake (keyboardAt block state) (asInfo n) (some (record { kind = kind; wparam = wparam; lparam = lparam }))
+      (state : List ℕ) → r ≡ fake (keyboardAt state block) (asInfo n) (some (record { kind = kind; wparam = wparam; lparam = lparam }))
 
   pub no-flag : mapsOf block .hasAltGraph ≡ false → Answers false
   unfolding fake

@@ -45,11 +45,11 @@ module _ (b : Keyboard) (st : ElementState) where
 module _ (block state : List ℕ) (st : ElementState) where
   -- the event of a key
   abbrev pub eventOf : ℕ → Event
-  eventOf vk = syntheticEvent (keyboardAt block state) st vk (scanCodeFor (mapsOf block) vk)
+  eventOf vk = syntheticEvent (keyboardAt state block) st vk (scanCodeFor (mapsOf block) vk)
 
   -- what focus_keys says of the keys and their number
   abbrev pub Noted : List ℕ → ℕ → Type 0
-  Noted keys n = (take n keys ≡ writtenOf (keyboardAt block state) (focusKeys st)) × (n ≤ 253) × (length keys ≡ KEYS)
+  Noted keys n = (take n keys ≡ writtenOf (keyboardAt state block) (focusKeys st)) × (n ≤ 253) × (length keys ≡ KEYS)
 
   -- the events of the first i keys
   unfoldable pub eventsTo : List ℕ → ℕ → List Event
@@ -68,16 +68,16 @@ module _ (block state : List ℕ) (st : ElementState) where
   count-to keys i h = length-map (take i keys) eventOf ∙ length-take-le i keys h
 
   module _ (keys : List ℕ) (n : ℕ) (k : Noted keys n) where
-    pub all-events : eventsTo keys n ≡ focusEvents (keyboardAt block state) st
+    pub all-events : eventsTo keys n ≡ focusEvents (keyboardAt state block) st
     unfolding eventsTo
-    all-events = ap (λ (l : List ℕ). map eventOf l) (k .0) ∙ sym (focus-events (keyboardAt block state) st)
+    all-events = ap (λ (l : List ℕ). map eventOf l) (k .0) ∙ sym (focus-events (keyboardAt state block) st)
 
-    pub count : n ≡ length (focusEvents (keyboardAt block state) st)
+    pub count : n ≡ length (focusEvents (keyboardAt state block) st)
     count = sym (count-to keys n (omega arith)) ∙ ap length all-events
 
     -- a key left is an event left
     pub one-left :
-        (i m most : ℕ) → i < n → m + length (focusEvents (keyboardAt block state) st) ≤ most → m + length (eventsTo keys i) < most
+        (i m most : ℕ) → i < n → m + length (focusEvents (keyboardAt state block) st) ≤ most → m + length (eventsTo keys i) < most
     one-left i m most h l = omega (arith, count, count-to keys i (omega arith))
 
 -- the keys and the event of a key, asked of what they are asked of here

@@ -12,6 +12,6 @@ use Rattle.session.proofs.Fits.{KeyboardOk, keyboard-ok}
 use Rattle.event.specs.Written.{keyboardAt}
 
 -- its maps are in range
-pub keyboard-at-ok : (block state : List ℕ) → ((i : ℕ) → getD block i 0 < 256) → blockOk block ≡ true → KeyboardOk (keyboardAt block state)
+pub keyboard-at-ok : (block state : List ℕ) → ((i : ℕ) → getD block i 0 < 256) → blockOk block ≡ true → KeyboardOk (keyboardAt state block)
 unfolding keyboardOf
 keyboard-at-ok block state b o = keyboard-ok (record { keyState = state; block = block }) (each-byte block b) o

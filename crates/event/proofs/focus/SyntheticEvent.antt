@@ -47,7 +47,7 @@ module _ (st : ElementState) (k : TextKey) (r : Text) where
 
 module _ (block state : List ℕ) (vk : ℕ) where
   abbrev board : Keyboard
-  board = keyboardAt block state
+  board = keyboardAt state block
 
   pub focused :
       {caps num on : Bool} {mods : WindowsModifiers} {v s : ℕ} (scancode : ℕ) (k : TextKey) → caps ≡ capsLockOn state →

@@ -27,7 +27,7 @@ module _ (block state : List ℕ) (vkey scancode : ℕ) where
   module _ (k : TextKey) {mods : WindowsModifiers} {num : Bool} {v s : ℕ} (a : Asked k mods num v s) where
     pub as-typed :
         {held shown : WindowsModifiers} {on : Bool} → held ≡ activeModifiers state → shown ≡ removeOnlyCtrl held → on ≡ numLockOn state →
-        (mods ≡ shown) × (num ≡ on) × (v ≡ vkey) × (s ≡ scancode) → asKey k ≡ layoutKey (keyboardAt block state) vkey scancode
+        (mods ≡ shown) × (num ≡ on) × (v ≡ vkey) × (s ≡ scancode) → asKey k ≡ layoutKey (keyboardAt state block) vkey scancode
     unfolding layoutKey
     as-typed h g n x =
         let mods-as = x .0 ∙ g ∙ ap removeOnlyCtrl h in
@@ -35,6 +35,6 @@ module _ (block state : List ℕ) (vkey scancode : ℕ) where
         a ∙ (λ i. getKey (mapsOf block) (bitsOf (mods-as i)) (num-as i) (x .2 i) (x .3 i) (keyCodeOf (x .3 i)))
 
     pub plainly :
-        (mods ≡ only false) × (num ≡ false) × (v ≡ vkey) × (s ≡ scancode) → asKey k ≡ plainKey (keyboardAt block state) vkey scancode
+        (mods ≡ only false) × (num ≡ false) × (v ≡ vkey) × (s ≡ scancode) → asKey k ≡ plainKey (keyboardAt state block) vkey scancode
     unfolding plainKey
     plainly x = a ∙ rw (x .0, caps-bits false, x .1, x .2, x .3) refl

@@ -31,7 +31,7 @@ use Rattle.event.specs.Written.{keyboardAt}
 
 module _ (block state : List ℕ) (vkey : ℕ) (l : KeyLParam) where
   abbrev board : Keyboard
-  board = keyboardAt block state
+  board = keyboardAt state block
 
   -- ---- from_message
 

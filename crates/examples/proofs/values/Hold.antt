@@ -1,4 +1,4 @@
--- The values that document 01 marks P hold of the definitions: one test, computed.
+-- The values of SCOPE 8.1 hold of the definitions: one test, computed.
 -- Assumes nothing.
 use lib.Dec.{T}
 use Rattle.area.specs.Look.{assoc}

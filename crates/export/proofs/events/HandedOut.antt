@@ -65,7 +65,7 @@ module _ (es : List Event) (h : length es ≤ ENTRIES-MOST) (f : allFit es ≡ t
   unfolding encodeAnswer answer slot padded
   area-as = list-as 2 ENTRIES-MOST (omega arith) event-sound es _ h (events-each es f)
 
-  counted : num 2 0 (encodeAnswer es) ≡ length es
+  pub counted : num 2 0 (encodeAnswer es) ≡ length es
   counted = rw area-as (num-le 2 (length es) (putMany event es ++ Rest) (omega arith))
 
   placed : (i : ℕ) → drop (place i) (encodeAnswer es) ≡ drop (ANSWER-EVENT-SIZE * i) (putMany event es ++ Rest)

@@ -79,7 +79,7 @@ pub encoded-length : (i : Item) → length (encodeItem i) ≡ ENTRY-HEAD + lengt
 unfolding encodeItem put le
 encoded-length i = omega arith
 
--- "texts .. of 1 to 24 bytes"
+-- SCOPE 5.2: texts of 1 to 24 bytes
 pub len-below : (n len : ℕ) → lenOk n len ≡ true → len ≤ ENTRY-TEXT-MOST
 unfolding lenOk
 len-below n len e = go (eqb n 0) e

@@ -71,7 +71,7 @@ module _ (m : Maps) (k : MapsOk m) where
   pub block-size : length (blockOf m) ≡ HEAD + itemBytes (listsIn m)
   block-size = block-length ∙ ap (λ (n : ℕ). HEAD + n) (bodies-size (listsIn m))
 
-  -- "in at most 8,192 bytes and, for each list entry, 16 and its text"
+  -- SCOPE 5.2: at most 8,192 bytes and, for each list entry, 16 and its text
   pub block-most : length (blockOf m) ≤ 8192 + itemBytes (listsIn m)
   block-most = omega (arith, block-size)
 

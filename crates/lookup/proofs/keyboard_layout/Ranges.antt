@@ -26,7 +26,7 @@ use Rattle.keys.specs.Number.{codeNative}
 use Rattle.lookup.specs.Sizes.{ENTRY-TEXT-MOST}
 use Rattle.lookup.specs.Maps.{Item, CodeItem, Maps, MapsOk, find, findCode, listFor, lenOk, valueOk, itemOk, itemsOk, numbered, numberedAll, codesFit, codeListsOk, vkeyOk, nonCharOk, word, cellsOk}
 use Rattle.lookup.specs.Layout.{orElse, nonCharKey, asNamed, getKey, scanCodeFor, messageScancode}
-use Rattle.lookup.specs.LParam.{keyLParam, exScancode, virtualKey}
+use Rattle.lookup.specs.LParam.{repeatBits, keyLParam, exScancode, virtualKey}
 use Rattle.lookup.specs.declared.keyboard.KeyLParam.{KeyLParam}
 use Rattle.lookup.specs.Codes.{scanCodes, keyCodeOf}
 
@@ -183,3 +183,8 @@ listed-fit = refl
 pub code-fits : (n : ℕ) → n < 2 ^ 16 → codeFits (keyCodeOf n) ≡ true
 unfolding keyCodeOf codeFits codeNative nativeFits
 code-fits n h = found-passes codeFits scanCodes _ n listed-fit (lt-ltb n (2 ^ 16) h)
+
+-- the repeat of an lParam
+pub repeat-of : (lparam : ℕ) → keyLParam lparam .«is_repeat» ≡ repeatBits lparam
+unfolding keyLParam
+repeat-of lparam = refl

@@ -24,7 +24,7 @@ given c =
 done-in :
     (c : tie.After-finish-open) →
     let a = given c .args in
-    Does (finishedBy (decode (a .session .now)) (keyboardAt (a .block .now) (a .state .now)) (a .token .0) (asPeeked (a .peeked))) (c .finish-open .last .0) (c .finish-open .last .1 .0)
+    Does (finishedBy (decode (a .session .now)) (keyboardAt (a .state .now) (a .block .now)) (a .token .0) (asPeeked (a .peeked))) (c .finish-open .last .0) (c .finish-open .last .1 .0)
 done-in c = let a = given c .args in told-done _ _ (a .token .0) (a .peeked) (c .finish-open .ensures) (refl, refl)
 
 ask-areas-requires : tie.Need-ask-areas-requires

@@ -46,8 +46,8 @@ held-and-last none m e = let z : false ≡ true = e in (z, (cc))
 
 -- a press made by the layout and the key state a and d, told of those of the finish, which they are
 pub told-held :
-    (block state : List ℕ) {a d : List ℕ} (vkey : ℕ) (l : KeyLParam) {h : Held} → h ≡ heldOf (keyboardAt a d) vkey l → (a ≡ block) × (d ≡ state) →
-    h ≡ heldOf (keyboardAt block state) vkey l
+    (block state : List ℕ) {a d : List ℕ} (vkey : ℕ) (l : KeyLParam) {h : Held} → h ≡ heldOf (keyboardAt d a) vkey l → (a ≡ block) × (d ≡ state) →
+    h ≡ heldOf (keyboardAt state block) vkey l
 told-held block state vkey l m e = rw (← e .0, ← e .1) m
 
 -- a new press has no units

@@ -24,7 +24,7 @@ asked c = let told = c .before .before .before in told .before .before
 late-in :
     (c : tie.After-ask-message) →
     let a = given (asked c) .args in
-    asNo (c .ask-message .result) ≡ firstNo (messageQuestions (decode (a .session .now)) (keyboardAt (a .block .now) (a .state .now)) (message (a .kind) (a .wparam) (a .lparam)) (asSort (c .before .before .sort-of .result)))
+    asNo (c .ask-message .result) ≡ firstNo (messageQuestions (decode (a .session .now)) (keyboardAt (a .state .now) (a .block .now)) (message (a .kind) (a .wparam) (a .lparam)) (asSort (c .before .before .sort-of .result)))
 late-in c = told-asked _ _ _ (c .before .before .sort-of .result) _ (c .ask-message .ensures _ _) refl
 
 ask-areas-requires : tie.Need-ask-areas-requires

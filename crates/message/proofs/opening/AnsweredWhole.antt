@@ -48,14 +48,14 @@ module _ (x : List ℕ) (b : (i : ℕ) → getD x i 0 < 256) (r : IsArea x) (n :
   -- a focus change by the layout a and the key state s to the state t, which are those of the call
   module _ (block state : List ℕ) (st : ElementState) {a s : List ℕ} {t : ElementState} where
     pub focus-out :
-        n ≡ 0 → {z : List ℕ} → z ≡ encodeAnswer (focusEvents (keyboardAt a s) t) → (a ≡ block) × (s ≡ state) × (t ≡ st) →
-        Gives (behind (decode x) (focusEvents (keyboardAt block state) st) (decode x .held) (decode x .entries)) OpenedNone x z
+        n ≡ 0 → {z : List ℕ} → z ≡ encodeAnswer (focusEvents (keyboardAt s a) t) → (a ≡ block) × (s ≡ state) × (t ≡ st) →
+        Gives (behind (decode x) (focusEvents (keyboardAt state block) st) (decode x .held) (decode x .entries)) OpenedNone x z
     focus-out i q e = rw (← e .0, ← e .1, ← e .2) (out (decode x) _ (decode x .held) (decode x .entries) (sym c ∙ i) (own-area x b r .exact) q)
 
     pub focus-waits :
-        (n ≡ 0 → ⊥) → {z w : List ℕ} → z ≡ encode (followed (decode x) (focusEvents (keyboardAt a s) t)) → w ≡ encodeAnswer [] →
+        (n ≡ 0 → ⊥) → {z w : List ℕ} → z ≡ encode (followed (decode x) (focusEvents (keyboardAt s a) t)) → w ≡ encodeAnswer [] →
         (a ≡ block) × (s ≡ state) × (t ≡ st) →
-        Gives (behind (decode x) (focusEvents (keyboardAt block state) st) (decode x .held) (decode x .entries)) OpenedNone z w
+        Gives (behind (decode x) (focusEvents (keyboardAt state block) st) (decode x .held) (decode x .entries)) OpenedNone z w
     unfolding followed
     focus-waits l q w e = rw (← e .0, ← e .1, ← e .2) (waits (decode x) _ (decode x .held) (decode x .entries) (λ i. l (c ∙ i)) q w)
 

@@ -38,7 +38,7 @@ module _ (block state : List ℕ) (st : ElementState) where
 
   module _ (ok : MapsOk (mapsOf block)) where
     pub event-fits : (vk : ℕ) → eventFits (eventOf block state st vk) ≡ true
-    event-fits vk = synthetic-fits (keyboardAt block state) st vk _ ok (scan-code-below (mapsOf block) ok vk)
+    event-fits vk = synthetic-fits (keyboardAt state block) st vk _ ok (scan-code-below (mapsOf block) ok vk)
 
     mapped-fit : (vks : List ℕ) → allFit (map (eventOf block state st) vks) ≡ true
     unfolding allFit
@@ -60,7 +60,7 @@ module _ (block state : List ℕ) (st : ElementState) where
     -- all of them, their number, and zeros behind
     pub handed-all :
         (keys : List ℕ) (n : ℕ) (y₀ : List ℕ) {y z : List ℕ} → Noted block state st keys n → length y₀ ≡ AREA → Handing (eventsTo block state st keys n) y₀ y →
-        z ≡ zeroFrom (ANSWER-EVENTS-AT + ANSWER-EVENT-SIZE * n) (splice 0 (le 2 n) y) → z ≡ encodeAnswer (focusEvents (keyboardAt block state) st)
+        z ≡ zeroFrom (ANSWER-EVENTS-AT + ANSWER-EVENT-SIZE * n) (splice 0 (le 2 n) y) → z ≡ encodeAnswer (focusEvents (keyboardAt state block) st)
     handed-all keys n y₀ {y} {z} k l p w =
         let c = count-to block state st keys n (omega arith) in
         answer-done (eventsTo block state st keys n) y₀ (ANSWER-EVENTS-AT + ANSWER-EVENT-SIZE * n) (events-fit keys n) (omega arith) l (omega arith) p refl (w ∙ ap (λ (m : ℕ). zeroFrom (ANSWER-EVENTS-AT + ANSWER-EVENT-SIZE * n) (splice 0 (le 2 m) y)) (sym c))

@@ -115,7 +115,7 @@ module _ (block state : List ℕ) (st : ElementState) (x : List ℕ) where
 
   -- there is room for all of them, and one key is left
   module _
-      (some-entry : 0 < length (decode x .entries)) (fit : FitBehind (decode x) (focusEvents (keyboardAt block state) st)) (keys : List ℕ) (n : ℕ)
+      (some-entry : 0 < length (decode x .entries)) (fit : FitBehind (decode x) (focusEvents (keyboardAt state block) st)) (keys : List ℕ) (n : ℕ)
       (k : Noted block state st keys n) (i : ℕ) (h : i < n) {y : List ℕ} (q : QueuedTo keys i y)
     where
       entry-left : length (decode x .entries) + length (eventsTo block state st keys i) < ENTRIES-MOST
@@ -138,5 +138,5 @@ module _ (block state : List ℕ) (st : ElementState) (x : List ℕ) where
 
   pub all-queued :
       (keys : List ℕ) (n : ℕ) → Noted block state st keys n → {y : List ℕ} → QueuedTo keys n y →
-      y ≡ encode (followed (decode x) (focusEvents (keyboardAt block state) st))
+      y ≡ encode (followed (decode x) (focusEvents (keyboardAt state block) st))
   all-queued keys n k q = q .area ∙ ap (λ (es : List Event). encode (followed (decode x) es)) (all-events block state st keys n k)

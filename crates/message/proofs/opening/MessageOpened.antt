@@ -48,6 +48,6 @@ release-read b q e f p = rw (q, p .0, p .1, e, f) refl
 -- what a release was read to be is in range
 pub release-fits :
     (block state : List ℕ) → ((i : ℕ) → getD block i 0 < 256) → blockOk block ≡ true → (lparam vkey : ℕ) (l : KeyLParam) {n : Info} →
-    n ≡ fromMessage (keyboardAt block state) vkey l → l ≡ keyLParam lparam → infoFits n ≡ true
+    n ≡ fromMessage (keyboardAt state block) vkey l → l ≡ keyLParam lparam → infoFits n ≡ true
 release-fits block state b o lparam vkey l e f =
-    ap infoFits e ∙ info-fits (keyboardAt block state) vkey l (keyboard-at-ok block state b o) (rw f (scan-small lparam))
+    ap infoFits e ∙ info-fits (keyboardAt state block) vkey l (keyboard-at-ok block state b o) (rw f (scan-small lparam))

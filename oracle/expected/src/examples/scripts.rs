@@ -2,7 +2,7 @@
 use super::boards::{Board, Boards};
 use kbtypes::{Body, Call, Peeked};
 
-/// A call on a keyboard, and the number with which document 01 refuses it. tao is not given a refused call.
+/// A call on a keyboard, and the number with which docs/SCOPE.md, 6, refuses it. tao is not given a refused call.
 #[derive(Clone)]
 pub struct Step {
   pub board: Board,
@@ -297,7 +297,7 @@ pub fn examples(b: &Boards) -> Vec<Example> {
     ),
     example(
       "one-piece",
-      "CR LF is one piece, and so is a letter with marks (by document 01's stand-in for the counter, in tao too)",
+      "CR LF is one piece, and so is a letter with marks (by SCOPE 3.13's stand-in for the counter, in tao too)",
       {
         let mut steps = held(us, vec![character(us, 0x0D), more(us, 0), character(us, 0x0A), alone(us, 0)]);
         steps.extend(held(
@@ -454,7 +454,7 @@ pub fn examples(b: &Boards) -> Vec<Example> {
       "103 and 107 on an empty queue leave no token handed out",
       held(us, vec![bring(us, 0x107, 0xB4, lparam(0x0D)), release(us, 0x45, 0x12), alone(us, 0)]),
     ),
-    // ---- refusals, which are document 01's: tao panics at 5 and has no limits
+    // ---- refusals, which are those of docs/SCOPE.md, 6: tao panics at 5 and has no limits
     example(
       "nothing-held",
       "a 103 with no press held is refused 5, a 102 is ignored",

@@ -104,7 +104,7 @@ fn units(seen: &Snapshot) -> Option<usize> {
   seen.held.as_ref().map(|(_, _, units)| units.len())
 }
 
-/// Whether a message opens: document 01's kinds, but for what is ignored.
+/// Whether a message opens: the kinds of docs/SCOPE.md, 2.3, but for what is ignored.
 fn opens(seen: &Snapshot, kind: u32, wparam: u64) -> bool {
   match kind {
     0x100 | 0x101 | 0x105 => true,

@@ -26,7 +26,7 @@ asked c = c .before .before .before
 
 counted-in :
     (c : tie.After-control-counts) →
-    let a = start (held c) .args in controlCounts (keyboardAt (a .block .now) (a .state .now)) ≡ c .control-counts .result
+    let a = start (held c) .args in controlCounts (keyboardAt (a .state .now) (a .block .now)) ≡ c .control-counts .result
 counted-in c =
     let a = start (held c) .args in
     counted (a .block .now) (a .state .now) (a .h) (args (c .control-counts) .0) (held c .active-modifiers .ensures)
@@ -35,7 +35,7 @@ counted-in c =
 layout-in :
     (c : tie.After-layout-key) →
     let a = start (held (asked (c .before) .before)) .args in
-    asKey (c .layout-key .result) ≡ layoutKey (keyboardAt (a .block .now) (a .state .now)) (a .h .vkey) (a .h .info .scancode)
+    asKey (c .layout-key .result) ≡ layoutKey (keyboardAt (a .state .now) (a .block .now)) (a .h .vkey) (a .h .info .scancode)
 layout-in c =
     let num = c .before in
     let mods = held (asked num .before) in

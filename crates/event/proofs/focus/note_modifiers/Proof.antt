@@ -9,7 +9,7 @@ use Rattle.event.proofs.focus.note_modifiers.Statement.{statement}
 use Rattle.event.proofs.focus.note_modifiers.Tie as tie
 
 abbrev Inv-loop : tie.InvT-loop
-Inv-loop keys₀ from state block at₀ i₀ keys at i = SixLeft (keyboardAt block state) from (take from keys₀) i at keys
+Inv-loop keys₀ from state block at₀ i₀ keys at i = SixLeft (keyboardAt state block) from (take from keys₀) i at keys
 
 abbrev μ-loop : tie.MeasureT-loop
 μ-loop keys₀ from state block at₀ i₀ keys at i = 6 - i

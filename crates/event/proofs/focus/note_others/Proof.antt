@@ -11,7 +11,7 @@ use Rattle.event.proofs.focus.note_others.Tie as tie
 
 abbrev Inv-loop : tie.InvT-loop
 Inv-loop keys₀ from state block at₀ vk₀ keys at vk =
-    OthersLeft (keyboardAt block state) from (take from keys₀) vk at keys
+    OthersLeft (keyboardAt state block) from (take from keys₀) vk at keys
 
 abbrev μ-loop : tie.MeasureT-loop
 μ-loop keys₀ from state block at₀ vk₀ keys at vk = KEYS - vk

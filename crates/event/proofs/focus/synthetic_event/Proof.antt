@@ -23,7 +23,7 @@ scanned c = c .before .before .before
 logical-in :
     (c : tie.After-layout-key) →
     let s = scanned c in
-    let a = start s .args in asKey (c .layout-key .result) ≡ focusKey (keyboardAt (a .block .now) (a .state .now)) (a .vk) (s .scancode-for .result)
+    let a = start s .args in asKey (c .layout-key .result) ≡ focusKey (keyboardAt (a .state .now) (a .block .now)) (a .vk) (s .scancode-for .result)
 logical-in c =
     let num = c .before in
     let a = start (scanned c) .args in
@@ -33,7 +33,7 @@ logical-in c =
 plain-in :
     (c : tie.After-layout-key2) →
     let s = scanned (c .before) in
-    let a = start s .args in asKey (c .layout-key2 .result) ≡ plainKey (keyboardAt (a .block .now) (a .state .now)) (a .vk) (s .scancode-for .result)
+    let a = start s .args in asKey (c .layout-key2 .result) ≡ plainKey (keyboardAt (a .state .now) (a .block .now)) (a .vk) (s .scancode-for .result)
 plain-in c =
     let s = scanned (c .before) in
     let a = start s .args in

@@ -39,7 +39,7 @@ known-in c =
 logical-in :
     (c : tie.After-layout-key) →
     let s = scanned (forced (c .before)) in
-    let a = start s .args in asKey (c .layout-key .result) ≡ layoutKey (keyboardAt (a .block .now) (a .state .now)) (a .vkey) (s .message-scancode .result)
+    let a = start s .args in asKey (c .layout-key .result) ≡ layoutKey (keyboardAt (a .state .now) (a .block .now)) (a .vkey) (s .message-scancode .result)
 logical-in c =
     let shown = c .before in
     let mods = forced shown .before .before .before in
@@ -50,7 +50,7 @@ logical-in c =
 plain-in :
     (c : tie.After-layout-key2) →
     let s = scanned (forced (c .before .before)) in
-    let a = start s .args in asKey (c .layout-key2 .result) ≡ plainKey (keyboardAt (a .block .now) (a .state .now)) (a .vkey) (s .message-scancode .result)
+    let a = start s .args in asKey (c .layout-key2 .result) ≡ plainKey (keyboardAt (a .state .now) (a .block .now)) (a .vkey) (s .message-scancode .result)
 plain-in c =
     let a = start (scanned (forced (c .before .before))) .args in
     plainly (a .block .now) (a .state .now) (a .vkey) _ _ (c .layout-key2 .ensures .0) (refl, refl, refl, refl)

@@ -57,7 +57,7 @@ waits-in c = press-waits _ _ _ _ _ (areas c .before .pre) (bytes-in (areas c)) _
 made-in :
     (c : tie.After-press) →
     let a = areas c .before .args in
-    let r = c .before .pressed-at .result in asHeld (c .press .result) ≡ heldOf (keyboardAt (a .block .now) (a .state .now)) (r .vkey) (r .lparam)
+    let r = c .before .pressed-at .result in asHeld (c .press .result) ≡ heldOf (keyboardAt (a .state .now) (a .block .now)) (r .vkey) (r .lparam)
 made-in c = let a = areas c .before .args in told-held (a .block .now) (a .state .now) _ _ (c .press .ensures .0) (refl, refl)
 
 fits-in : (c : tie.After-press) → heldFits (some (asHeld (c .press .result))) ≡ true
@@ -87,13 +87,13 @@ made c = forgot c .before .before .before .before
 fake-in :
     (c : tie.Then2) →
     let m = made (c .before) in
-    let a = areas m .before .args in fake (keyboardAt (a .block .now) (a .state .now)) (asHeld (m .press .result) .info) (asPeeked (a .peeked)) ≡ true
+    let a = areas m .before .args in fake (keyboardAt (a .state .now) (a .block .now)) (asHeld (m .press .result) .info) (asPeeked (a .peeked)) ≡ true
 fake-in c = rw (← info-of (made (c .before) .press .result)) (told-fake _ _ (c .before .is-fake .ensures _) (c .if2 .taken) refl)
 
 real-in :
     (c : tie.Else2) →
     let m = made (c .before) in
-    let a = areas m .before .args in fake (keyboardAt (a .block .now) (a .state .now)) (asHeld (m .press .result) .info) (asPeeked (a .peeked)) ≡ false
+    let a = areas m .before .args in fake (keyboardAt (a .state .now) (a .block .now)) (asHeld (m .press .result) .info) (asPeeked (a .peeked)) ≡ false
 real-in c = rw (← info-of (made (c .before) .press .result)) (told-fake _ _ (c .before .is-fake .ensures _) (c .if2 .left) refl)
 
 -- ---- the press that is held after it: itself, or none

@@ -41,13 +41,13 @@ waits-in c = release-waits _ _ _ _ _ (areas c .before .pre) (bytes-in (areas c))
 fake-in :
     (c : tie.Then1) →
     let i = c .before .before in
-    let a = areas i .before .args in fake (keyboardAt (a .block .now) (a .state .now)) (asInfo (i .info-at .result)) (asPeeked (a .peeked)) ≡ true
+    let a = areas i .before .args in fake (keyboardAt (a .state .now) (a .block .now)) (asInfo (i .info-at .result)) (asPeeked (a .peeked)) ≡ true
 fake-in c = told-fake _ _ (c .before .is-fake .ensures _) (c .if1 .taken) refl
 
 real-in :
     (c : tie.Else1) →
     let i = c .before .before in
-    let a = areas i .before .args in fake (keyboardAt (a .block .now) (a .state .now)) (asInfo (i .info-at .result)) (asPeeked (a .peeked)) ≡ false
+    let a = areas i .before .args in fake (keyboardAt (a .state .now) (a .block .now)) (asInfo (i .info-at .result)) (asPeeked (a .peeked)) ≡ false
 real-in c = told-fake _ _ (c .before .is-fake .ensures _) (c .if1 .left) refl
 
 -- where the release is read

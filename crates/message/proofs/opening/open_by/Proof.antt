@@ -13,7 +13,7 @@ use Rattle.message.proofs.opening.open_by.Statement.{statement}
 use Rattle.message.proofs.opening.open_by.Tie as tie
 
 abbrev board : tie.Start → Keyboard
-board s = keyboardAt (s .args .block .now) (s .args .state .now)
+board s = keyboardAt (s .args .state .now) (s .args .block .now)
 
 abbrev message : tie.Start → ℕ → Message
 message s kind = record { kind = kind; wparam = s .args .wparam; lparam = s .args .lparam }

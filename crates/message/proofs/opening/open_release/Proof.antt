@@ -47,7 +47,7 @@ returns c =
     let made = put .before .before in
     let known = made .before .before .before in
     let a = known .before .before .before .before .args in
-    let board = keyboardAt (a .block .now) (a .state .now) in
+    let board = keyboardAt (a .state .now) (a .block .now) in
     opened (decode (a .session .now)) (release (fromMessage board (virtualKey (a .wparam)) (keyLParam (a .lparam)))) (decode (a .session .now) .held)
     (put .add-release .ensures) (none .no-events .ensures)
     (release-read board (made .from-message .ensures .0) (made .before .before .virtual-key .ensures) (made .before .destructure-key-lparam .ensures) (refl, refl)) refl

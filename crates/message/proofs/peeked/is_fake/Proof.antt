@@ -29,7 +29,7 @@ returns-2 c =
     let told = c .before .before in
     let a = told .before .before .before .args in
     c .is-current-fake .ensures state
-    ∙ ap (λ (p : Option Message). fake (keyboardAt (a .block .now) state) (asInfo (a .info)) p) (sym (peeked-some _ _ _ _ (told .peeked .given .1)))
+    ∙ ap (λ (p : Option Message). fake (keyboardAt state (a .block .now)) (asInfo (a .info)) p) (sym (peeked-some _ _ _ _ (told .peeked .given .1)))
 
 pub is-fake-spec : {M : Type 1} → statement M
 is-fake-spec =
