@@ -32,18 +32,18 @@ static void take_events(void) {
 /* Finishes the message of a token. A refused finish leaves its message open and everything behind it waiting, so it is brought again: with
  * refusals 1 to 3 the same token is answered once the inputs are in order. Where they can't be put in order the station stops. */
 static void finish_message(uint32_t token, const MSG *peeked) {
+    uint32_t no = MAHJONGLARCH_ANSWERED;
     for (int tries = 0; tries < FINISH_TRIES; tries++) {
         read_keyboard(0);
-        uint32_t no = mahjonglarch_finish(session, sizeof session, answers, sizeof answers, state, sizeof state, block, block_len, token,
-                                          peeked != NULL, peeked ? peeked->message : 0, peeked ? peeked->wParam : 0,
-                                          peeked ? (uint64_t)peeked->lParam : 0);
+        no = mahjonglarch_finish(session, sizeof session, answers, sizeof answers, state, sizeof state, block, block_len, token, peeked != NULL,
+                                 peeked ? peeked->message : 0, peeked ? peeked->wParam : 0, peeked ? (uint64_t)peeked->lParam : 0);
         if (no == MAHJONGLARCH_ANSWERED) {
             take_events();
             return;
         }
-        if (no > MAHJONGLARCH_REFUSED_BLOCK) stop_station("finish", no);
+        if (no > MAHJONGLARCH_REFUSED_BLOCK) break;
     }
-    stop_station("finish", MAHJONGLARCH_REFUSED_BLOCK);
+    stop_station("finish", no);
 }
 
 LRESULT CALLBACK window_procedure(HWND window, UINT kind, WPARAM wparam, LPARAM lparam) {
