@@ -104,7 +104,8 @@ extern "C" {
  * (below) passes 5 to 9, and question 6 is put only to messages that open.
  *
  * A refused open took no part in the session: its message is not processed. A refused finish leaves its message open, and all that arrives
- * behind it waits; the same token, brought again with inputs in order, is answered, and everything comes out in order.
+ * behind it waits. That of the latest open message is refused only with 1, 2 or 3, as long as nothing but these calls wrote the area; the same
+ * token, brought again with inputs in order, is then answered, and everything comes out in order.
  *
  *     number   bring the call again?                                          stop the station?
  *     1, 2     yes, with the right sizes                                      if it can't be done before the next message

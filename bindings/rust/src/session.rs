@@ -82,8 +82,8 @@ impl Session {
   }
 
   /// Finishes the latest open message with what was peeked. `answers` takes the events, which are lent. A refused call changes neither area:
-  /// the message is still open, all that arrived behind it waits, and the token comes back. Brought again with inputs in order it is answered,
-  /// and everything comes out in order.
+  /// the message is still open, all that arrived behind it waits, and the token comes back. The latest one, refused with 1 to 3 and brought
+  /// again with inputs in order, is answered, and everything comes out in order.
   pub fn finish<'a>(
     &mut self,
     answers: &'a mut Answers,
