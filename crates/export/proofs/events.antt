@@ -1,7 +1,5 @@
-mod Fields
+pub mod Fields
 mod Put
 pub mod Place
 mod Reading
 pub mod HandedOut
-pub mod Told
-pub mod Host

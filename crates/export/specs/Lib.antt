@@ -1,4 +1,3 @@
 pub mod Interface
 pub mod Numbers
 pub mod Events
-pub mod Host

@@ -1,10 +1,12 @@
 // The values of the limits and of the refusals (docs/SCOPE.md, 8.2 and 6), executed: what just passes, what is refused, and that a refused
-// call keeps both areas and the message result. It reads its steps from standard input; a step that has a name is printed with what it gave. The
-// layout has one key, 31 with the scan code 02, whose character is 1.
+// call keeps both areas and the message result. There is one message result, which goes from each message to the next and is printed behind each that
+// passes. It reads its steps from standard input; a step that has a name is printed with what it gave. The layout has one key, 31 with the scan code
+// 02, whose character is 1.
 //
 //   new                        a fresh session
 //   keys VK ..                 the keys that are down; all others are up
 //   mark AT                    a byte of the session area set to 1
+//   result V                   the message result; before the first such line it is the default procedure's
 //   short N                    the calls that follow get a session area (1), an answer area (2), a key state (3) or a block (4) that lacks
 //                              its last byte; 0: none
 //   message K W L: NAME        a message: kind, wParam, lParam
@@ -46,13 +48,6 @@ fn unchanged(bytes: &[u8], was: &[u8]) -> bool {
     show::first_difference(bytes, was) == bytes.len()
 }
 
-fn is_seven(r: ProcResult) -> bool {
-    match r {
-        ProcResult::DefWindowProc => false,
-        ProcResult::Value(v) => v == 7,
-    }
-}
-
 // ---- what was said
 
 fn show_kept(kept: bool) {
@@ -63,19 +58,37 @@ fn show_kept(kept: bool) {
     }
 }
 
-fn show_said(s: Said, kept: bool) {
-    if s.what == 0 {
-        text(b"refused ");
-        decimal(s.number as u64);
-        show_kept(kept);
-        return;
-    }
+fn show_refused(number: u32, kept: bool) {
+    text(b"refused ");
+    decimal(number as u64);
+    show_kept(kept);
+}
+
+// What passed: nothing is open for it, or a message with its token is.
+fn show_passed(s: Said) {
     if s.what == 1 {
-        text(b"passed\n");
+        text(b"passed");
         return;
     }
     text(b"opened, token ");
     decimal(s.number as u64);
+}
+
+// A value; the steps lend none below 0.
+fn show_value(v: i64) {
+    if v < 0 {
+        text(b"negative");
+        return;
+    }
+    decimal(v as u64);
+}
+
+fn show_result(r: ProcResult) {
+    text(b", result ");
+    match r {
+        ProcResult::DefWindowProc => text(b"default"),
+        ProcResult::Value(v) => show_value(v),
+    }
     text(b"\n");
 }
 
@@ -86,8 +99,20 @@ fn show_number(n: u64) {
 
 // ---- calls
 
-fn open(session: &mut [u8], answers: &mut [u8], state: &[u8], block: &[u8], m: Message) -> Said {
-    let lent = ProcResult::Value(7);
+// What an open said, and the message result behind it.
+struct Opened {
+    said: Said,
+    result: ProcResult,
+}
+
+fn open(
+    session: &mut [u8],
+    answers: &mut [u8],
+    state: &[u8],
+    block: &[u8],
+    m: Message,
+    result: ProcResult,
+) -> Opened {
     let kind = m.kind;
     let o = message::process_message::lend_result(
         session,
@@ -97,10 +122,14 @@ fn open(session: &mut [u8], answers: &mut [u8], state: &[u8], block: &[u8], m: M
         kind,
         m.wparam,
         m.lparam,
-        lent,
+        result,
     );
     let a = o.answer;
-    show::said_by_open(a)
+    let after = o.result;
+    Opened {
+        said: show::said_by_open(a),
+        result: after,
+    }
 }
 
 fn finish(
@@ -116,29 +145,32 @@ fn finish(
     show::said_by_finish(a)
 }
 
-// An open that is shown, with whether it kept everything.
-fn show_open(session: &mut [u8], answers: &mut [u8], state: &[u8], block: &[u8], m: Message) {
+// An open that is shown, a refused one with whether it kept everything. Answers the message result behind it.
+fn show_open(
+    session: &mut [u8],
+    answers: &mut [u8],
+    state: &[u8],
+    block: &[u8],
+    m: Message,
+    result: ProcResult,
+) -> ProcResult {
     let mut session_was = io::large_buffer();
     let mut answers_was = io::large_buffer();
     // what no call writes, so that a change is seen
     show::fill(answers, 7);
     show::copy(session, &mut session_was);
     show::copy(answers, &mut answers_was);
-    let lent = ProcResult::Value(7);
-    let kind = m.kind;
-    let o = message::process_message::lend_result(
-        session,
-        answers,
-        state,
-        block,
-        kind,
-        m.wparam,
-        m.lparam,
-        lent,
-    );
-    let a = o.answer;
-    let areas_kept = unchanged(session, &session_was) && unchanged(answers, &answers_was);
-    show_said(show::said_by_open(a), areas_kept && is_seven(o.result));
+    let o = open(session, answers, state, block, m, result);
+    let s = o.said;
+    let after = o.result;
+    if s.what == 0 {
+        let areas_kept = unchanged(session, &session_was) && unchanged(answers, &answers_was);
+        show_refused(s.number, areas_kept && show::same_result(result, after));
+    } else {
+        show_passed(s);
+        show_result(after);
+    }
+    after
 }
 
 // A finish with nothing peeked that is shown.
@@ -150,14 +182,26 @@ fn show_finish(session: &mut [u8], answers: &mut [u8], state: &[u8], block: &[u8
     show::copy(session, &mut session_was);
     show::copy(answers, &mut answers_was);
     let s = finish(session, answers, state, block, token, Peeked::Nothing);
-    let kept = unchanged(session, &session_was) && unchanged(answers, &answers_was);
-    show_said(s, kept);
+    if s.what == 0 {
+        let kept = unchanged(session, &session_was) && unchanged(answers, &answers_was);
+        show_refused(s.number, kept);
+    } else {
+        show_passed(s);
+        text(b"\n");
+    }
 }
 
-fn show_call(session: &mut [u8], answers: &mut [u8], state: &[u8], block: &[u8], line: &[u8]) {
+// A message or a finish. Answers the message result behind it, which a finish does not see.
+fn show_call(
+    session: &mut [u8],
+    answers: &mut [u8],
+    state: &[u8],
+    block: &[u8],
+    line: &[u8],
+    result: ProcResult,
+) -> ProcResult {
     if byte_at(line, 0) == b'm' {
-        show_open(session, answers, state, block, message_at(line, 7));
-        return;
+        return show_open(session, answers, state, block, message_at(line, 7), result);
     }
     let t = number_at(line, 6);
     show_finish(
@@ -167,6 +211,7 @@ fn show_call(session: &mut [u8], answers: &mut [u8], state: &[u8], block: &[u8],
         block,
         (t.value % 0x1_0000_0000) as u32,
     );
+    result
 }
 
 // ---- a call that is given less
@@ -188,7 +233,8 @@ fn show_cut(
     block: &[u8],
     line: &[u8],
     short: u64,
-) {
+    result: ProcResult,
+) -> ProcResult {
     let of_session = cut(session.len(), short == 1);
     let of_answers = cut(answers.len(), short == 2);
     let of_state = cut(state.len(), short == 3);
@@ -199,7 +245,8 @@ fn show_cut(
         &state[0..of_state],
         &block[0..of_block],
         line,
-    );
+        result,
+    )
 }
 
 // ---- many calls: how many of n passed
@@ -211,6 +258,12 @@ fn one_if(passed: bool) -> u64 {
     0
 }
 
+// How many of some messages passed, and the message result behind them.
+struct Passed {
+    count: u64,
+    result: ProcResult,
+}
+
 // A message opened, and finished with what was peeked.
 fn whole(
     session: &mut [u8],
@@ -219,10 +272,16 @@ fn whole(
     block: &[u8],
     m: Message,
     peeked: Peeked,
-) -> u64 {
-    let s = open(session, answers, state, block, m);
+    result: ProcResult,
+) -> Passed {
+    let o = open(session, answers, state, block, m, result);
+    let s = o.said;
+    let after = o.result;
     let f = finish(session, answers, state, block, s.number, peeked);
-    one_if(s.what == 2 && f.what == 1)
+    Passed {
+        count: one_if(s.what == 2 && f.what == 1),
+        result: after,
+    }
 }
 
 fn open_many(
@@ -232,15 +291,19 @@ fn open_many(
     block: &[u8],
     m: Message,
     n: u64,
-) -> u64 {
-    let mut passed: u64 = 0;
+    before: ProcResult,
+) -> Passed {
+    let mut result = before;
+    let mut count: u64 = 0;
     let mut i: u64 = 0;
     while i < n {
-        let s = open(session, answers, state, block, m);
-        passed = std::num::wrapping_add_u64(passed, one_if(s.what == 2));
+        let o = open(session, answers, state, block, m, result);
+        let s = o.said;
+        result = o.result;
+        count = std::num::wrapping_add_u64(count, one_if(s.what == 2));
         i += 1;
     }
-    passed
+    Passed { count, result }
 }
 
 fn whole_many(
@@ -251,40 +314,37 @@ fn whole_many(
     m: Message,
     peeked: Peeked,
     n: u64,
-) -> u64 {
-    let mut passed: u64 = 0;
+    before: ProcResult,
+) -> Passed {
+    let mut result = before;
+    let mut count: u64 = 0;
     let mut i: u64 = 0;
     while i < n {
-        let one = whole(session, answers, state, block, m, peeked);
-        passed = std::num::wrapping_add_u64(passed, one);
+        let p = whole(session, answers, state, block, m, peeked, result);
+        result = p.result;
+        count = std::num::wrapping_add_u64(count, p.count);
         i += 1;
     }
-    passed
+    Passed { count, result }
 }
 
-// A line that makes many calls.
-fn show_many(
+// The calls of a line that makes many.
+fn many(
     session: &mut [u8; AREA_SIZE],
     answers: &mut [u8; AREA_SIZE],
     state: &[u8; 256],
     block: &[u8],
     line: &[u8],
-) {
+    result: ProcResult,
+) -> Passed {
     if byte_at(line, 0) == b'o' {
         let n = number_at(line, 5);
-        show_number(open_many(
-            session,
-            answers,
-            state,
-            block,
-            message_at(line, n.next),
-            n.value,
-        ));
-        return;
+        let m = message_at(line, n.next);
+        return open_many(session, answers, state, block, m, n.value, result);
     }
     let n = number_at(line, 6);
     let p = number_at(line, n.next);
-    show_number(whole_many(
+    whole_many(
         session,
         answers,
         state,
@@ -292,12 +352,13 @@ fn show_many(
         message_at(line, p.next),
         peeked_of(p.value),
         n.value,
-    ));
+        result,
+    )
 }
 
 // ---- the steps
 
-// A step with a name: what stands behind its colon, and what it gave.
+// A step with a name: what stands behind its colon, and what it gave. Answers the message result behind it.
 fn show_step(
     session: &mut [u8; AREA_SIZE],
     answers: &mut [u8; AREA_SIZE],
@@ -305,20 +366,22 @@ fn show_step(
     block: &[u8],
     line: &[u8],
     short: u64,
-) {
+    result: ProcResult,
+) -> ProcResult {
     let colon = find(line, 0, b':');
     text(part(line, behind(line, behind(line, colon)), line.len()));
     text(b": ");
     let what = byte_at(line, 0);
     if what == b'e' {
         show_number(show::u16_at(answers, 0) as u64);
-        return;
+        return result;
     }
     if what == b'm' || what == b'f' {
-        show_cut(session, answers, state, block, line, short);
-        return;
+        return show_cut(session, answers, state, block, line, short, result);
     }
-    show_many(session, answers, state, block, line);
+    let p = many(session, answers, state, block, line, result);
+    show_number(p.count);
+    p.result
 }
 
 // A step without a name.
@@ -349,11 +412,21 @@ fn short_of(line: &[u8], before: u64) -> u64 {
     before
 }
 
+// The message result from a line on.
+fn result_of(line: &[u8], before: ProcResult) -> ProcResult {
+    if byte_at(line, 0) == b'r' {
+        let n = number_at(line, 6);
+        return ProcResult::Value(show::signed(n.value));
+    }
+    before
+}
+
 fn show_all(block: &[u8], input: &[u8]) {
     let mut session = io::large_buffer();
     let mut answers = io::large_buffer();
     let mut state = [0u8; 256];
     let mut short: u64 = 0;
+    let mut result = ProcResult::DefWindowProc;
     let mut at: usize = 0;
     let mut turn: usize = 0;
     while turn < input.len() {
@@ -361,8 +434,17 @@ fn show_all(block: &[u8], input: &[u8]) {
         let line = part(input, at, to);
         short = short_of(line, short);
         if is_named(line) {
-            show_step(&mut session, &mut answers, &state, block, line, short);
+            result = show_step(
+                &mut session,
+                &mut answers,
+                &state,
+                block,
+                line,
+                short,
+                result,
+            );
         } else {
+            result = result_of(line, result);
             prepare(&mut session, &mut state, line);
         }
         at = behind(input, to);

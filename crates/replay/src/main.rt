@@ -116,17 +116,13 @@ fn result_of(tag: u8, bits: u64) -> ProcResult {
     ProcResult::Value(show::signed(bits))
 }
 
-fn same_result(a: ProcResult, b: ProcResult) -> bool {
-    match a {
-        ProcResult::DefWindowProc => match b {
-            ProcResult::DefWindowProc => true,
-            ProcResult::Value(_) => false,
-        },
-        ProcResult::Value(x) => match b {
-            ProcResult::DefWindowProc => false,
-            ProcResult::Value(y) => x == y,
-        },
+// The message result that an open is lent: a new one, or the one that the last open left.
+fn lent_by(r: &[u8], last: ProcResult) -> ProcResult {
+    let tag = byte_at(r, 20);
+    if tag == 2 {
+        return last;
     }
+    result_of(tag, u64_at(r, 21))
 }
 
 fn peeked_at(r: &[u8]) -> Peeked {
@@ -145,14 +141,30 @@ enum Differs {
     Events,
 }
 
+// A call: what it did otherwise than tao in its answer and the message result, and that result.
+struct Called {
+    differs: Differs,
+    result: ProcResult,
+}
+
+fn open_differs(r: &[u8], said: Said, result: ProcResult) -> Differs {
+    if !as_expected(r, said) {
+        return Differs::Answer;
+    }
+    if !show::same_result(result, result_of(byte_at(r, 34), u64_at(r, 35))) {
+        return Differs::Result;
+    }
+    Differs::Nowhere
+}
+
 fn open(
     r: &[u8],
     session: &mut [u8; AREA_SIZE],
     answers: &mut [u8; AREA_SIZE],
     state: &[u8; 256],
     block: &[u8],
-) -> Differs {
-    let lent = result_of(byte_at(r, 20), u64_at(r, 21));
+    last: ProcResult,
+) -> Called {
     let o = message::process_message::lend_result(
         session,
         answers,
@@ -161,17 +173,14 @@ fn open(
         u32_at(r, 0),
         u64_at(r, 4),
         u64_at(r, 12),
-        lent,
+        lent_by(r, last),
     );
     let a = o.answer;
     let result = o.result;
-    if !as_expected(r, show::said_by_open(a)) {
-        return Differs::Answer;
+    Called {
+        differs: open_differs(r, show::said_by_open(a), result),
+        result,
     }
-    if !same_result(result, result_of(byte_at(r, 34), u64_at(r, 35))) {
-        return Differs::Result;
-    }
-    Differs::Nowhere
 }
 
 fn finish(
@@ -243,15 +252,16 @@ fn show_difference(d: Differs, answers: &[u8; AREA_SIZE], expected: &[u8; AREA_S
 
 // ---- scripts
 
-// What was played: the place behind it, calls, events, and what the last call did otherwise than tao.
+// What was played: the place behind it, calls, events, what the last call did otherwise than tao, and the message result.
 struct Played {
     at: usize,
     calls: u64,
     events: u64,
     differs: Differs,
+    result: ProcResult,
 }
 
-// Makes the call of a record: 3 an open, 4 a finish.
+// Makes the call of a record: 3 an open, 4 a finish, which does not see the message result.
 fn call(
     what: u8,
     r: &[u8],
@@ -259,11 +269,15 @@ fn call(
     answers: &mut [u8; AREA_SIZE],
     state: &[u8; 256],
     block: &[u8],
-) -> Differs {
+    last: ProcResult,
+) -> Called {
     if what == 3 {
-        return open(r, session, answers, state, block);
+        return open(r, session, answers, state, block, last);
     }
-    finish(r, session, answers, state, block)
+    Called {
+        differs: finish(r, session, answers, state, block),
+        result: last,
+    }
 }
 
 // One call. A refused one leaves the answer area as it was, so no area is in the file for it.
@@ -275,10 +289,13 @@ fn play_call(
     expected: &mut [u8; AREA_SIZE],
     state: &[u8; 256],
     block: &[u8],
+    last: ProcResult,
 ) -> Played {
     let mut r = [0u8; 48];
     let mut next = unpack(d, behind(d, at), &mut r);
-    let mut differs = call(byte_at(d, at), &r, session, answers, state, block);
+    let c = call(byte_at(d, at), &r, session, answers, state, block, last);
+    let result = c.result;
+    let mut differs = c.differs;
     let mut events: u64 = 0;
     if r[29] != 0 {
         next = unpack(d, next, expected);
@@ -292,6 +309,7 @@ fn play_call(
         calls: 1,
         events,
         differs,
+        result,
     }
 }
 
@@ -309,6 +327,7 @@ fn play(
 ) -> Played {
     let mut state = [0u8; 256];
     let mut block = Part { from: 0, to: 0 };
+    let mut result = ProcResult::DefWindowProc;
     let mut at = from;
     let mut calls: u64 = 0;
     let mut events: u64 = 0;
@@ -322,6 +341,7 @@ fn play(
                 calls,
                 events,
                 differs: Differs::Nowhere,
+                result,
             };
         }
         if what == 2 {
@@ -337,8 +357,10 @@ fn play(
                 expected,
                 &state,
                 bytes_of(d, block),
+                result,
             );
             at = p.at;
+            result = p.result;
             calls = std::num::wrapping_add_u64(calls, p.calls);
             events = std::num::wrapping_add_u64(events, p.events);
             let differs = p.differs;
@@ -349,6 +371,7 @@ fn play(
                     calls,
                     events,
                     differs,
+                    result,
                 },
             }
         }
@@ -359,6 +382,7 @@ fn play(
         calls,
         events,
         differs: Differs::Nowhere,
+        result,
     }
 }
 

@@ -2,6 +2,7 @@
 use libc::STDOUT_FILENO;
 use session::FinishAnswer;
 use session::OpenAnswer;
+use session::ProcResult;
 
 // ---- numbers from bytes, with the low byte first; 0 where the bytes end before
 
@@ -134,6 +135,19 @@ pub fn said_by_finish(a: FinishAnswer) -> Said {
             number: export::numbers::refusal_number(no),
         },
         FinishAnswer::Finished => Said { what: 1, number: 0 },
+    }
+}
+
+pub fn same_result(a: ProcResult, b: ProcResult) -> bool {
+    match a {
+        ProcResult::DefWindowProc => match b {
+            ProcResult::DefWindowProc => true,
+            ProcResult::Value(_) => false,
+        },
+        ProcResult::Value(x) => match b {
+            ProcResult::DefWindowProc => false,
+            ProcResult::Value(y) => x == y,
+        },
     }
 }
 

@@ -118,9 +118,9 @@ use mathlib.Core.Option.{some, none}
 use Rattle.keys.specs.Text.{named, character, unidentified, dead, deadChar}
 use Rattle.keys.specs.declared.KeyLocation.the-variants as at
 use Rattle.keys.specs.declared.NativeKeyCode.the-variants as native
-use Rattle.keycode.specs.declared.KeyCode.the-variants as code
-use Rattle.keystroke.specs.LParam.{keyLParam}
-use Rattle.block.specs.Maps.{Maps}
+use Rattle.keys.specs.declared.key_code.KeyCode.the-variants as code
+use Rattle.lookup.specs.LParam.{keyLParam}
+use Rattle.lookup.specs.Maps.{Maps}
 use Rattle.session.specs.Session.{press, waiting, freshSession}
 use Rattle.session.specs.Builder.{Keyboard}
 use Rattle.session.specs.Calls.{numbered}

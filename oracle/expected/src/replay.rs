@@ -10,11 +10,13 @@ mod seeded;
 
 use seeded::Seeded;
 
-/// A call, what `result` is before it, and the number with which docs/SCOPE.md, 6, refuses it. tao is not given a refused call.
+/// A call, what `result` is before it, whether that is what the open before it left, and the number with which docs/SCOPE.md, 6, refuses
+/// it. tao is not given a refused call.
 #[derive(Clone)]
 pub struct Step {
   pub call: Call,
   pub lent: Slot,
+  pub handed_on: bool,
   pub refused: Option<u8>,
 }
 
@@ -91,7 +93,31 @@ fn examples(lent: &mut Seeded) -> Vec<Script> {
 }
 
 fn steps(lent: &mut Seeded, steps: impl IntoIterator<Item = by_hand::Step>) -> Vec<Step> {
-  steps.into_iter().map(|s| Step { call: s.call(), lent: lent.slot(), refused: s.refused }).collect()
+  steps.into_iter().map(|s| Step { call: s.call(), lent: lent.slot(), handed_on: false, refused: s.refused }).collect()
+}
+
+/// Hands `result` on from open to open; every fourth begins with a new one. tao says what an open leaves, so it is asked until nothing changes.
+fn hand_on(script: &mut Script) {
+  loop {
+    let answers = answers(script);
+    let opens = script.steps.iter_mut().zip(answers).filter(|(s, _)| matches!(s.call.body, Body::Open { .. }));
+    let mut last = None;
+    let mut changed = false;
+    for (i, (step, answer)) in opens.enumerate() {
+      if let Some(last) = last.filter(|_| i % 4 != 0) {
+        changed |= step.lent != last;
+        step.lent = last;
+        step.handed_on = true;
+      }
+      last = match answer {
+        Answer::Refused(_) => Some(step.lent),
+        Answer::Answered { result, .. } => Some(result),
+      };
+    }
+    if !changed {
+      return;
+    }
+  }
 }
 
 pub struct Files {
@@ -107,6 +133,7 @@ fn all(us: &LayoutSpec) -> Vec<Script> {
     all.push(Script { name: name.into(), steps: steps(&mut seeded, calls) });
   }
   all.extend(seeded::scripts(&mut seeded, &us));
+  all.iter_mut().for_each(hand_on);
   all
 }
 
@@ -135,6 +162,28 @@ mod tests {
   use super::*;
   use kbtypes::{ElementState, Key, Location, Native};
   use std::collections::BTreeSet;
+
+  /// `result` goes from open to open, and of what is handed on both kinds are kept and set.
+  #[test]
+  fn handed_on() {
+    let mut seen = BTreeSet::new();
+    for script in all(&crate::keyboard::us()) {
+      let mut last = None;
+      for (step, answer) in script.steps.iter().zip(answers(&script)) {
+        let Body::Open { .. } = step.call.body else { continue };
+        let result = match answer {
+          Answer::Refused(_) => step.lent,
+          Answer::Answered { result, .. } => result,
+        };
+        if step.handed_on {
+          assert_eq!(last, Some(step.lent), "{}", script.name);
+          seen.insert((step.lent == Slot::DefaultProcedure, step.lent == result));
+        }
+        last = Some(result);
+      }
+    }
+    assert_eq!(seen.len(), 4);
+  }
 
   /// What the scripts reach, beyond what their names say.
   #[test]

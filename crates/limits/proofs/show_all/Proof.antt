@@ -6,10 +6,10 @@ use Rattle.limits.proofs.show_all.Statement.{statement}
 use Rattle.limits.proofs.show_all.Tie as tie
 
 abbrev Inv-loop : tie.InvT-loop
-Inv-loop block input session₀ answers₀ state₀ short₀ at₀ turn₀ session answers state short at turn = turn ≤ length input
+Inv-loop block input session₀ answers₀ state₀ short₀ result₀ at₀ turn₀ session answers state short result at turn = turn ≤ length input
 
 abbrev μ-loop : tie.MeasureT-loop
-μ-loop block input session₀ answers₀ state₀ short₀ at₀ turn₀ session answers state short at turn = length input - turn
+μ-loop block input session₀ answers₀ state₀ short₀ result₀ at₀ turn₀ session answers state short result at turn = length input - turn
 
 large-buffer-requires : tie.Need-large-buffer-requires Inv-loop μ-loop
 large-buffer-requires c κs = search needs
@@ -28,6 +28,9 @@ part-requires c κs = search needs
 
 short-of-requires : tie.Need-short-of-requires Inv-loop μ-loop
 short-of-requires c κs = search needs
+
+result-of-requires : tie.Need-result-of-requires Inv-loop μ-loop
+result-of-requires c κs = search needs
 
 is-named-requires : tie.Need-is-named-requires Inv-loop μ-loop
 is-named-requires c κs = search needs
@@ -67,6 +70,7 @@ show-all-spec =
     short-of-requires
     is-named-requires
     show-step-requires
+    result-of-requires
     prepare-requires
     behind-requires
     add-turn

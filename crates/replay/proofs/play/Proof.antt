@@ -6,10 +6,10 @@ use Rattle.replay.proofs.play.Statement.{statement}
 use Rattle.replay.proofs.play.Tie as tie
 
 abbrev Inv-loop : tie.InvT-loop
-Inv-loop d from session₀ answers₀ expected₀ state₀ block₀ at₀ calls₀ events₀ turn₀ session answers expected state block at calls events turn = turn ≤ length d
+Inv-loop d from session₀ answers₀ expected₀ state₀ block₀ result₀ at₀ calls₀ events₀ turn₀ session answers expected state block result at calls events turn = turn ≤ length d
 
 abbrev μ-loop : tie.MeasureT-loop
-μ-loop d from session₀ answers₀ expected₀ state₀ block₀ at₀ calls₀ events₀ turn₀ session answers expected state block at calls events turn = length d - turn
+μ-loop d from session₀ answers₀ expected₀ state₀ block₀ result₀ at₀ calls₀ events₀ turn₀ session answers expected state block result at calls events turn = length d - turn
 
 fresh-requires : tie.Need-fresh-requires Inv-loop μ-loop
 fresh-requires c κs = search needs

@@ -49,7 +49,11 @@ fn record(step: &Step, answer: &Answer, before: &Snapshot) -> [u8; RECORD] {
   match step.call.body {
     Body::Open { kind, wparam, lparam } => {
       message(&mut out, Peeked { kind, wparam, lparam });
-      slot(&mut out[20..], step.lent);
+      if step.handed_on {
+        out[20] = 2;
+      } else {
+        slot(&mut out[20..], step.lent);
+      }
     }
     Body::Finish { token, peeked } => {
       if let Some(m) = peeked {

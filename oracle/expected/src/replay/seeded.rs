@@ -141,7 +141,7 @@ impl Player<'_> {
   fn add(&mut self, body: Body) {
     let call = Call { body, state: self.state.clone(), layout: self.layout.clone() };
     let lent = self.seeded.slot();
-    self.steps.push(Step { call: call.clone(), lent, refused: None });
+    self.steps.push(Step { call: call.clone(), lent, handed_on: false, refused: None });
     let before = open(&self.seen).0;
     let left = match body {
       Body::Open { kind, wparam, .. } => before + usize::from(opens(&self.seen, kind, wparam)),
@@ -149,7 +149,7 @@ impl Player<'_> {
     };
     // tao runs to its end, so what is open is closed behind the last call
     let body = Body::Finish { token: 0, peeked: None };
-    let close = Step { call: Call { body, ..call }, lent, refused: None };
+    let close = Step { call: Call { body, ..call }, lent, handed_on: false, refused: None };
     let all: Vec<&Step> = self.steps.iter().chain((0..left).map(|_| &close)).collect();
     match tao(&all).swap_remove(self.steps.len() - 1) {
       Answer::Answered { seen, .. } => self.seen = seen,

@@ -16,8 +16,8 @@ use Rattle.session.specs.Codec.{Codec, byte, number, pair, checked, via}
 use Rattle.session.specs.Area.{flag, state, location, bytesOf, textBytes, optText, keyCode, fullKey, event}
 use Rattle.session.proofs.Lists.{and-true}
 use Rattle.session.proofs.Area.{event-sound}
 use Rattle.export.specs.Events.{fieldsOf, eventText}
-use Rattle.export.specs.Host.{textsOf, EventTold, Told, told}
+use Rattle.host.specs.Host.{textsOf, EventTold, Told, told}
 
 -- a key's three numbers and its text
 abbrev keyBytes : ℕ → Codec ((ℕ × (ℕ × ℕ)) × List ℕ)

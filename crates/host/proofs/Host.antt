@@ -20,13 +20,13 @@ use Rattle.session.proofs.Lists.{All, both}
 use Rattle.session.proofs.Area.{event-sound, event-width, answer-back}
 use Rattle.session.proofs.HandedOut.{Wrote, Writes, inAreas, run-handed-out}
 use Rattle.session.proofs.Demand3.{demand3}
 use Rattle.export.specs.Numbers.{NONE}
 use Rattle.export.specs.Events.{FIELDS, isAnswer, eventAt, fieldsLeft, eventText, textAt, textLeft, textPlace, nth}
 use Rattle.export.specs.Interface.{countOf}
-use Rattle.export.specs.Host.{told, Room, fieldsTaken, textTaken, eventRead, eventsRead, areaRead, runRead, HostDemand3}
+use Rattle.host.specs.Host.{told, Room, fieldsTaken, textTaken, eventRead, eventsRead, areaRead, runRead, HostDemand3}
 use Rattle.export.proofs.events.Fields.{text-read}
-use Rattle.export.proofs.events.Told.{events-told}
+use Rattle.host.proofs.Told.{events-told}
 use Rattle.export.proofs.events.HandedOut.{counted, events-back}
 
 -- ---- a text
 
