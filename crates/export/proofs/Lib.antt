@@ -1,1 +1,3 @@
 mod Interface
+pub mod Fields
+pub mod HandedOut

@@ -1,5 +1,3 @@
-pub mod Fields
 mod Put
 pub mod Place
 mod Reading
-pub mod HandedOut

@@ -24,9 +24,9 @@ use Rattle.export.specs.Numbers.{NONE}
 use Rattle.export.specs.Events.{FIELDS, isAnswer, eventAt, fieldsLeft, eventText, textAt, textLeft, textPlace, nth}
 use Rattle.export.specs.Interface.{countOf}
 use Rattle.host.specs.Host.{told, Room, fieldsTaken, textTaken, eventRead, eventsRead, areaRead, runRead, HostDemand3}
-use Rattle.export.proofs.events.Fields.{text-read}
+use Rattle.export.proofs.Fields.{text-read}
 use Rattle.host.proofs.Told.{events-told}
-use Rattle.export.proofs.events.HandedOut.{counted, events-back}
+use Rattle.export.proofs.HandedOut.{counted, events-back}
 
 -- ---- a text
 

@@ -6,7 +6,7 @@
 //   new                        a fresh session
 //   keys VK ..                 the keys that are down; all others are up
 //   mark AT                    a byte of the session area set to 1
-//   result V                   the message result; before the first such line it is the default procedure's
+//   result V                   the message result, 7 or 9; before the first such line it is the default procedure's
 //   short N                    the calls that follow get a session area (1), an answer area (2), a key state (3) or a block (4) that lacks
 //                              its last byte; 0: none
 //   message K W L: NAME        a message: kind, wParam, lParam
@@ -74,13 +74,21 @@ fn show_passed(s: Said) {
     decimal(s.number as u64);
 }
 
-// A value; the steps lend none below 0.
+// A value: the 0 that a message leaves, or 7 or 9, which the steps set.
 fn show_value(v: i64) {
-    if v < 0 {
-        text(b"negative");
+    if v == 0 {
+        text(b"0");
         return;
     }
-    decimal(v as u64);
+    if v == 7 {
+        text(b"7");
+        return;
+    }
+    if v == 9 {
+        text(b"9");
+        return;
+    }
+    text(b"another");
 }
 
 fn show_result(r: ProcResult) {

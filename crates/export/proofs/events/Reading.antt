@@ -19,7 +19,7 @@ use Rattle.session.specs.Area.{event}
 use Rattle.export.specs.Numbers.{NONE}
 use Rattle.export.specs.Events.{FIELDS, place, isEvent, eventAt, fieldsOf, fieldsLeft, eventText, textAt, textLeft, textPlace}
 use Rattle.export.proofs.events.Place.{Within, event-is}
-use Rattle.export.proofs.events.Fields.{text-read}
+use Rattle.export.proofs.Fields.{text-read}
 
 -- ---- event i: r is what the check said
 

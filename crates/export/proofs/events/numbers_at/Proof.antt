@@ -2,7 +2,7 @@
 -- Assumes nothing.
 use native.Mathlib.Omega.{arith}
 use borrow.Author.Needs.{needs}
-use Rattle.export.proofs.events.Fields.{fields-read}
+use Rattle.export.proofs.Fields.{fields-read}
 use Rattle.export.proofs.events.numbers_at.Statement.{statement}
 use Rattle.export.proofs.events.numbers_at.Tie as tie
 
