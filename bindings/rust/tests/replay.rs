@@ -71,12 +71,11 @@ impl Record {
     }
   }
 
-  /// The message result behind an open that says what becomes of it.
-  fn result_after(&self, change: u32) -> [u8; 9] {
-    match change {
-      0 => self.0[20..29].try_into().unwrap(),
-      1 => [0; 9],
-      _ => [1, 0, 0, 0, 0, 0, 0, 0, 0],
+  /// The message result before an open, by what the open before left.
+  fn result_before(&self, left: [u8; 9]) -> [u8; 9] {
+    match self.0[20] {
+      2 => left,
+      _ => self.0[20..29].try_into().unwrap(),
     }
   }
 }
@@ -86,6 +85,17 @@ struct Replay {
   answers: Vec<u8>,
   state: Vec<u8>,
   block: &'static [u8],
+  /// The message result as the latest open left it.
+  result: [u8; 9],
+}
+
+/// The message result behind an open that says what becomes of it.
+fn result_after(before: [u8; 9], change: u32) -> [u8; 9] {
+  match change {
+    0 => before,
+    1 => [0; 9],
+    _ => [1, 0, 0, 0, 0, 0, 0, 0, 0],
+  }
 }
 
 impl Replay {
@@ -102,7 +112,8 @@ impl Replay {
       &mut token,
       &mut change,
     );
-    assert_eq!(r.result_after(change), r.0[34..43]);
+    self.result = result_after(r.result_before(self.result), change);
+    assert_eq!(self.result, r.0[34..43]);
     (number, token)
   }
 
@@ -156,7 +167,8 @@ fn tao_scripts() -> Vec<&'static str> {
 fn the_calls_of_replay() {
   let mut file = Reader(include_bytes!("../../../crates/replay/data/calls"));
   let blocks: Vec<_> = (0..file.byte()).map(|_| file.block()).collect();
-  let mut replay = Replay { session: vec![0; AREA_SIZE], answers: vec![0; AREA_SIZE], state: vec![], block: &[] };
+  let (session, answers) = (vec![0; AREA_SIZE], vec![0; AREA_SIZE]);
+  let mut replay = Replay { session, answers, state: vec![], block: &[], result: [0; 9] };
   let mut scripts = vec![];
   loop {
     match file.byte() {
