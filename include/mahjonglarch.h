@@ -2,7 +2,8 @@
 /* Mahjonglarch: Windows key messages to key events.
  *
  * The keyboard part of the Rust crate tao 0.37.2 (its Windows side), written again in Rattle and proved. It calls nothing of Windows: the
- * host brings each message, what PeekMessageW showed, the key state and a prepared keyboard layout, as numbers and bytes, and gets events.
+ * host brings each message, what PeekMessageW showed, the key state, a prepared keyboard layout and Unicode's break table, as numbers and
+ * bytes, and gets events.
  *
  *     tools/hosts                            builds the archive and tries both hosts of this repository
  *     rt staticlib export                    builds target/staticlib/libexport.a alone: x86-64, ELF, System V calling convention
@@ -16,7 +17,8 @@
  *  1. Before the first call, compare mahjonglarch_interface() with MAHJONGLARCH_INTERFACE.
  *  2. Test both answers. Another number than 0 is a refusal: nothing was changed, and `answers` still has the events of an earlier call.
  *  3. Take the events of each answered call, and only of those, before the answer area is lent again. An event is handed out once.
- *  4. Read the key state anew for each half of a message (for kind 7 the asynchronous one, below), and bring the block of the layout in force.
+ *  4. Read the key state anew for each half of a message (for kind 7 the asynchronous one, below), and bring the block of the layout in force
+ *     and the break table.
  *  5. Finish the latest message first, with what PeekMessageW showed behind it; where it showed nothing, `peeked` is 0.
  *  6. Take no text of a synthetic press: it was typed before, and it can come out before the typed one.
  *  7. Do with the message result what `result` says.
@@ -27,13 +29,15 @@
  * A message, from its arrival to its events. examples/c/window/window.c is a window procedure whole
  *
  *     uint32_t token, result, no;
- *     no = mahjonglarch_open(session, 65536, answers, 65536, state, 256, block, block_len, kind, wparam, lparam, &token, &result);
+ *     no = mahjonglarch_open(session, 65536, answers, 65536, state, 256, block, block_len, table, table_len, kind, wparam, lparam, &token,
+ *                            &result);
  *     if (no != 0) ..                     refused: the message took no part in the session
  *     ..                                  take the events of `answers`
  *     if (token != MAHJONGLARCH_NONE) {   the message is open until it is finished
  *         peeked = PeekMessageW(&next, window, WM_KEYFIRST, WM_KEYLAST, PM_NOREMOVE);     this can enter the window procedure again
- *         no = mahjonglarch_finish(session, 65536, answers, 65536, state, 256, block, block_len, token, peeked != 0, peeked ? next.message : 0,
- *                                  peeked ? next.wParam : 0, peeked ? next.lParam : 0);    with the key state and layout as they are by now
+ *         no = mahjonglarch_finish(session, 65536, answers, 65536, state, 256, block, block_len, table, table_len, token, peeked != 0,
+ *                                  peeked ? next.message : 0, peeked ? next.wParam : 0, peeked ? next.lParam : 0);
+ *                                         with the key state and layout as they are by now
  *         if (no != 0) ..                 refused: the message is still open. Bring the finish again with the same token
  *         ..                              take the events of `answers`
  *     }
@@ -49,7 +53,8 @@
  *
  * A slice is a pointer and a number of elements. The pointer is never NULL and is aligned for its elements, also where the number is 0 (any
  * aligned address that is not NULL will do then), and that many elements are there. Memory that a call may write (`session`,
- * `answers`, `token`, `result`, `fields`, `text`) overlaps nothing else that the same call is given; `state` and `block` are only read.
+ * `answers`, `token`, `result`, `fields`, `text`) overlaps nothing else that the same call is given; `state`, `block` and `table` are only
+ * read.
  * These are the only conditions. Every length and every content has an answer: a length or content that is not in order is refused.
  *
  * Nothing is allocated, nothing is kept outside the memory that a call is given, and no call blocks, so calls on different areas may run on
@@ -71,13 +76,14 @@ extern "C" {
 #endif
 
 /* The number of this interface. It rises with each change of a signature, of a number's meaning or of an area. */
-#define MAHJONGLARCH_INTERFACE 1u
+#define MAHJONGLARCH_INTERFACE 2u
 
 /* ---- Sizes and limits */
 
 #define MAHJONGLARCH_AREA_SIZE 65536u     /* bytes of a session area, and of an answer area: exactly so many */
 #define MAHJONGLARCH_KEY_STATE_SIZE 256u  /* bytes of a key state: exactly so many */
 #define MAHJONGLARCH_BLOCK_MOST 65536u    /* bytes of a layout block, at most */
+#define MAHJONGLARCH_TABLE_MOST 65536u    /* bytes of a break table, at most */
 #define MAHJONGLARCH_OPEN_MOST 8u         /* messages open together */
 #define MAHJONGLARCH_EVENTS_MOST 256u     /* entries of a session's queue (open messages and events that wait), and so events of one call */
 #define MAHJONGLARCH_TOKENS_MOST 4096u    /* tokens handed out since the queue was empty; a token is below this number */
@@ -88,7 +94,7 @@ extern "C" {
 /* 4,294,967,295. As a token: none was opened. As a count or a length: there is none, because the bytes or the number are not in order. */
 #define MAHJONGLARCH_NONE 0xFFFFFFFFu
 
-/* The areas and the block
+/* The areas, the block and the table
  *
  * Session area: all that lives between the calls of one keyboard. Make it by mahjonglarch_fresh, hand it to each call as the one before left
  * it, and write nothing into it. A fresh one is 65,536 zeros.
@@ -96,20 +102,24 @@ extern "C" {
  * Key state: what GetKeyboardState writes: for the virtual keys 00 to FF a byte with bit 7 where the key is down, and bit 0 where a lock is
  * on. For the kind 7 tao brings what GetAsyncKeyState says (bit 7) with the locks of GetKeyState (bit 0).
  * Layout block: the maps of the keyboard layout, as docs/AREAS.md lays them out byte by byte. crates/station/data/us.block is one.
+ * Break table: Unicode's break classes and pictographic marks, by ranges of scalar values, as docs/AREAS.md lays them out byte by byte. A typed
+ * text of one piece (extended grapheme cluster, Unicode Annex 29) may become the logical key, one of several does not; the pieces are counted
+ * with the table that the finish of its last character brings. tables/unicode-15.0.breaks is Unicode 15.0's, for all layouts and stations.
  */
 
 /* ---- Refusals: what a call answers that fails a question, the number of the first it fails (docs/SCOPE.md, 6)
  *
- * A refused call changes no byte of either area. 1 to 4 are put to `open` and `finish`, 5 to 9 to `open`, 10 to `finish`. A message that is ignored
- * (below) passes 5 to 9, and question 6 is put only to messages that open.
+ * A refused call changes no byte of either area. 1 to 3, 11 and 4, in this order, are put to `open` and `finish`, 5 to 9 to `open`, 10 to `finish`.
+ * A message that is ignored (below) passes 5 to 9, and question 6 is put only to messages that open.
  *
  * A refused open took no part in the session: its message is not processed. A refused finish leaves its message open, and all that arrives
- * behind it waits. That of the latest open message is refused only with 1, 2 or 3, as long as nothing but these calls wrote the area; the same
- * token, brought again with inputs in order, is then answered, and everything comes out in order.
+ * behind it waits. That of the latest open message is refused only with 1, 2, 3 or 11, as long as nothing but these calls wrote the area; the
+ * same token, brought again with inputs in order, is then answered, and everything comes out in order.
  *
  *     number   bring the call again?                                          stop the station?
  *     1, 2     yes, with the right sizes                                      if it can't be done before the next message
  *     3        yes, with the layout read anew                                 if the block stays so
+ *     11       yes, with the table read anew                                  if the table stays so
  *     4        no: something else wrote into the area                         at once: overwrite both areas, begin afresh, reject the card
  *     5        no: nothing typed is lost by it                                no
  *     6        yes, once a message has been finished                          if it can't be brought again: its digit is lost
@@ -128,7 +138,8 @@ enum mahjonglarch_refusal {
     MAHJONGLARCH_REFUSED_QUEUE_FULL = 7,     /* do the new entries fit within 256? */
     MAHJONGLARCH_REFUSED_TOKENS_USED = 8,    /* do the tokens since the queue was empty stay within 4,096? */
     MAHJONGLARCH_REFUSED_TOO_MANY_UNITS = 9, /* do the held units stay within 16? */
-    MAHJONGLARCH_REFUSED_NOT_LATEST = 10     /* to finish: is the token that of the latest open message? */
+    MAHJONGLARCH_REFUSED_NOT_LATEST = 10,    /* to finish: is the token that of the latest open message? */
+    MAHJONGLARCH_REFUSED_TABLE = 11          /* asked behind 3: is the table at most 65,536 bytes and laid out as docs/AREAS.md says? */
 };
 
 /* ---- Kinds of messages, Windows' numbers. All others are ignored: they open nothing, hand out nothing and keep the message result.
@@ -231,15 +242,15 @@ uint32_t mahjonglarch_fresh(uint8_t *session, size_t session_len);
  * call is refused). Answered: `session` is the next session, and `answers` has the events that are handed out, often none. wparam and lparam
  * are Windows' 64 bits, unchanged. Tokens start at 0 again when the queue empties: two messages that are not open together may have the same. */
 uint32_t mahjonglarch_open(uint8_t *session, size_t session_len, uint8_t *answers, size_t answers_len, const uint8_t *state, size_t state_len,
-                           const uint8_t *block, size_t block_len, uint32_t kind, uint64_t wparam, uint64_t lparam, uint32_t *token,
-                           uint32_t *result);
+                           const uint8_t *block, size_t block_len, const uint8_t *table, size_t table_len, uint32_t kind, uint64_t wparam,
+                           uint64_t lparam, uint32_t *token, uint32_t *result);
 
 /* Finishes the latest open message, whose token is given, with the message that was peeked, or with none where `peeked` is 0 (kind, wparam and
  * lparam are not looked at then): 0, or the refusal's number. Answered: `session` is the next session, and `answers` has the events. The message
  * result is not touched. */
 uint32_t mahjonglarch_finish(uint8_t *session, size_t session_len, uint8_t *answers, size_t answers_len, const uint8_t *state, size_t state_len,
-                             const uint8_t *block, size_t block_len, uint32_t token, uint32_t peeked, uint32_t kind, uint64_t wparam,
-                             uint64_t lparam);
+                             const uint8_t *block, size_t block_len, const uint8_t *table, size_t table_len, uint32_t token, uint32_t peeked,
+                             uint32_t kind, uint64_t wparam, uint64_t lparam);
 
 /* How many events an answer area has, 0 to 256. MAHJONGLARCH_NONE where the bytes are no answer area's: another size, or a number above 256. */
 uint32_t mahjonglarch_event_count(const uint8_t *answers, size_t answers_len);

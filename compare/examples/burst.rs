@@ -5,7 +5,7 @@
 //! A card has twenty digits, each a press with its character peeked, the character with the release peeked, and the
 //! release with nothing peeked. A message is one call of tao's process_message, and an open and a finish of the library.
 //! Processor time; of RUNS runs, whose parts take turns, the best of each part.
-use kbtypes::{Body, Call, LayoutSpec, Peeked as Seen, Slot};
+use kbtypes::{Body, BreakTable, Call, LayoutSpec, Peeked as Seen, Slot};
 use mahjonglarch::{raw, Answers, Keyboard, Message, Peeked, Session, AREA_SIZE};
 use std::{hint::black_box, sync::Arc};
 use tao_oracle::{bench, run_script};
@@ -62,6 +62,13 @@ struct Layout {
   block: Vec<u8>,
 }
 
+/// Unicode's break table, which both sides count by.
+const TABLE: &[u8] = include_bytes!("../../tables/unicode-15.0.breaks");
+
+fn ranges() -> Arc<BreakTable> {
+  Arc::new(areas::break_table::decode(TABLE).unwrap())
+}
+
 /// The areas and what else the library is lent.
 struct Library {
   session: Vec<u8>,
@@ -76,13 +83,14 @@ impl Library {
     for (m, peeked) in card {
       let (mut token, mut result) = (0, 0);
       let (session, answers, state) = (&mut self.session[..], &mut self.answers[..], &self.state[..]);
-      let refused = raw::open(session, answers, state, block, m.kind, m.wparam, m.lparam, &mut token, &mut result);
+      let refused =
+        raw::open(session, answers, state, block, TABLE, m.kind, m.wparam, m.lparam, &mut token, &mut result);
       assert_eq!(refused, 0);
       events += u64::from(raw::event_count(&self.answers));
       black_box(result);
       let (present, p) = peeked.map_or((0, Message::new(0, 0, 0)), |p| (1, p));
       let (session, answers, state) = (&mut self.session[..], &mut self.answers[..], &self.state[..]);
-      let refused = raw::finish(session, answers, state, block, token, present, p.kind, p.wparam, p.lparam);
+      let refused = raw::finish(session, answers, state, block, TABLE, token, present, p.kind, p.wparam, p.lparam);
       assert_eq!(refused, 0);
       events += u64::from(raw::event_count(&self.answers));
     }
@@ -107,7 +115,8 @@ fn safe(lent: &mut (Session, Answers), keyboard: Keyboard<'_>, card: &[(Message,
 /// Do both sides hand out the same events?
 fn check(layout: &Layout) {
   let state = Arc::new([0; 256]);
-  let call = |body| Call { body, state: state.clone(), layout: layout.maps.clone() };
+  let table = ranges();
+  let call = |body| Call { body, state: state.clone(), layout: layout.maps.clone(), table: table.clone() };
   let seen = |m: Message| Seen { kind: m.kind, wparam: m.wparam, lparam: m.lparam };
   let mut calls = vec![];
   for (m, peeked) in card() {
@@ -157,13 +166,14 @@ fn measure(layout: &Layout, cards: usize, runs: usize) {
   let mut library = Library { session: vec![0; AREA_SIZE], answers: vec![0; AREA_SIZE], state: [0; 256] };
   let mut lent = (Session::new(), Answers::new());
   let keyboard_state = [0; 256];
-  let keyboard = Keyboard { state: &keyboard_state, block: &layout.block };
+  let keyboard = Keyboard { state: &keyboard_state, block: &layout.block, table: TABLE };
+  let table = ranges();
   let (session, mut answers) = (vec![0; AREA_SIZE], vec![0; AREA_SIZE]);
-  let [mut tao, mut calls, mut host, mut scan_session, mut scan_block, mut scan_answers, mut floor] =
-    [Best(f64::MAX); 7];
+  let [mut tao, mut calls, mut host, mut scan_session, mut scan_block, mut scan_table, mut scan_answers, mut floor] =
+    [Best(f64::MAX); 8];
   let expected = EVENTS * cards as u64;
   for _ in 0..runs {
-    tao.take(time(|| assert_eq!(bench::scan(&layout.maps, DIGITS * cards), expected)));
+    tao.take(time(|| assert_eq!(bench::scan(&layout.maps, &table, DIGITS * cards), expected)));
     calls.take(time(|| assert_eq!((0..cards).map(|_| library.calls(&layout.block, &one)).sum::<u64>(), expected)));
     host.take(time(|| assert_eq!((0..cards).map(|_| safe(&mut lent, keyboard, &one)).sum::<u64>(), expected)));
     // As often as there are calls, so that all figures are divided alike.
@@ -173,10 +183,12 @@ fn measure(layout: &Layout, cards: usize, runs: usize) {
     };
     scan_session.take(often(&mut || read(&session)));
     scan_block.take(often(&mut || read(&layout.block)));
+    scan_table.take(often(&mut || read(TABLE)));
     scan_answers.take(often(&mut || clear(black_box(&mut answers))));
     floor.take(often(&mut || {
       read(&session);
       read(&layout.block);
+      read(TABLE);
       clear(black_box(&mut answers));
     }));
   }
@@ -190,8 +202,9 @@ fn measure(layout: &Layout, cards: usize, runs: usize) {
   row("library, a call", call(calls));
   row("scans of a call: session read", call(scan_session));
   row("                 block read", call(scan_block));
+  row("                 break table read", call(scan_table));
   row("                 answers cleared", call(scan_answers));
-  row("                 all three", call(floor));
+  row("                 all four", call(floor));
   println!("  library / tao {:.1}, a call / its scans {:.2}", message(calls) / message(tao), call(calls) / call(floor));
   let per_second = |ns: f64| 1e9 / ns;
   println!(
@@ -208,7 +221,8 @@ fn main() {
   let cards = arguments.next().unwrap_or(200);
   let runs = arguments.next().unwrap_or(9);
   let empty = LayoutSpec::empty(1);
-  let us = std::fs::read(concat!(env!("CARGO_MANIFEST_DIR"), "/../crates/layout_keys/data/us.block")).expect("us.block");
+  let us =
+    std::fs::read(concat!(env!("CARGO_MANIFEST_DIR"), "/../crates/layout_keys/data/us.block")).expect("us.block");
   let layouts = [
     Layout { name: "empty", block: areas::block::encode(&empty).unwrap(), maps: Arc::new(empty) },
     Layout { name: "US", maps: Arc::new(areas::block::decode(2, &us).unwrap()), block: us },

@@ -1,7 +1,10 @@
 //! How often each case was reached.
 use crate::script::Message;
-use areas::session::{EntryState, Session};
-use kbtypes::{Call, ElementState, Event, Key, Location, Native, KEY_NAMES};
+use areas::{
+  break_table,
+  session::{EntryState, Session},
+};
+use kbtypes::{BreakTable, Call, ElementState, Event, Key, Location, Native, KEY_NAMES};
 use std::fmt;
 
 macro_rules! cases {
@@ -21,6 +24,7 @@ cases! {
   Refused "refused"
   Aside "answered on a damaged copy of the session area, so not put to tao"
   Passing "answered with a damaged block that is one"
+  PassingTable "answered with a damaged break table that is one"
   Open7 "open, kind 7"
   Open8 "open, kind 8"
   Open100 "open, kind 100"
@@ -42,6 +46,7 @@ cases! {
   Refused8 "refusal 8"
   Refused9 "refusal 9"
   Refused10 "refusal 10"
+  Refused11 "refusal 11"
   F4 "ignored: 104 with F4"
   NoneHeld "ignored: a character with no held press"
   Unhandled "ignored: an unhandled kind"
@@ -103,6 +108,20 @@ cases! {
   Zero "text with 00"
   OnePiece "text of several scalar values that is the logical key"
   Several "text of several pieces, the layout's character stands"
+  OtherTable "text of one piece by the last finish's table and of several by that of the call before, or the other way round"
+  Gb3 "between the scalar values of a typed text: GB3"
+  Gb4 "GB4"
+  Gb5 "GB5"
+  Gb6 "GB6"
+  Gb7 "GB7"
+  Gb8 "GB8"
+  Gb9 "GB9"
+  Gb9a "GB9a"
+  Gb9b "GB9b"
+  Gb11 "GB11"
+  Gb12 "GB12"
+  Gb13 "GB13"
+  Gb999 "GB999"
   Longest "text of 48 bytes"
   NoPair "typed units without text"
   CodeIdentified "physical key identified"
@@ -220,6 +239,24 @@ impl Counts {
       EntryState::Complete(_) => (),
     }
     self.session(behind);
+  }
+
+  /// The rules by which the pieces of a typed text are counted, where this finish completes one. `last` is the answered
+  /// call before it.
+  pub fn pieces(&mut self, call: &Call, last: Option<&Call>, before: &Session, behind: &Session) {
+    let latest = before.entries.iter().rfind(|e| e.is_open());
+    let character = latest.is_some_and(|e| matches!(e.state, EntryState::Character));
+    let control = [0x11, 0xA2, 0xA3].iter().any(|vk| call.state[*vk] & 0x80 != 0);
+    let Some(held) = before.held.as_ref().filter(|h| h.mark && character && !control) else { return };
+    let Ok(text) = String::from_utf16(&held.units) else { return };
+    if behind.held.is_some() || text.chars().nth(1).is_none() {
+      return;
+    }
+    for rule in break_table::rules(&call.table, &text) {
+      self.0[after(Case::Gb3, rule as usize)] += 1;
+    }
+    let several = |t: &BreakTable| break_table::pieces(t, &text) > 1;
+    self.when(last.is_some_and(|l| several(&l.table) != several(&call.table)), Case::OtherTable);
   }
 
   /// The events of one call.

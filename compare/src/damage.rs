@@ -1,6 +1,6 @@
-//! Each byte of blocks, of session areas and of an answer area damaged in turn. What the library answers is held against
-//! the independent reading of docs/AREAS.md; where the damaged bytes are a block or a session, what calls then do is held
-//! against tao and against what the reading says is waiting.
+//! Each byte of blocks, of break tables, of session areas and of an answer area damaged in turn. What the library answers is held against
+//! the independent reading of docs/AREAS.md; where the damaged bytes are a block, a table or a session, what calls then do is
+//! held against tao and against what the reading says is waiting.
 use crate::{
   layouts::Layout,
   run::{Machine, Stopped},
@@ -11,6 +11,7 @@ use std::sync::Arc;
 mod answers;
 mod blocks;
 mod sessions;
+mod tables;
 
 /// The values that a byte takes in turn.
 fn damaged(byte: u8) -> impl Iterator<Item = u8> {
@@ -26,6 +27,7 @@ pub type Tried = (u64, u64);
 
 pub struct Damaged {
   pub blocks: Tried,
+  pub tables: Tried,
   pub sessions: Tried,
   pub answers: Tried,
 }
@@ -39,5 +41,6 @@ fn alone(l: &Arc<Layout>, keys: &State) -> Step {
 }
 
 pub fn run(m: &mut Machine) -> Result<Damaged, Stopped> {
-  Ok(Damaged { blocks: blocks::run(m)?, sessions: sessions::run(m)?, answers: answers::run()? })
+  let (blocks, tables) = (blocks::run(m)?, tables::run(m)?);
+  Ok(Damaged { blocks, tables, sessions: sessions::run(m)?, answers: answers::run()? })
 }

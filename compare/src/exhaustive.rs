@@ -3,6 +3,7 @@ use crate::{
   layouts::{code, key, text, Layout},
   run::{Machine, Stopped},
   script::{lparam, message, state, up, Body, Message, Odd, State, Step, Token},
+  tables::Tables,
 };
 use kbtypes::{Key, LayoutSpec};
 use std::sync::Arc;
@@ -57,6 +58,8 @@ pub fn alphabet() -> Vec<Step> {
   let control_alt = state(&[(0xA2, 0x80), (0xA5, 0x80)]);
   let down = state(&[(0x14, 0x81), (0x31, 0x80), (0xDD, 0x80)]);
   let cut = layout.block.len() - 1;
+  let tables = Tables::new();
+  let cut_table = tables.small.bytes.len() - 1;
   let mut a = Alphabet { all: vec![], layout, none };
   let alt_gr = |kind| Some(message(kind, 0x12, lparam(0xE038)));
   let latest = Token::Latest;
@@ -91,6 +94,7 @@ pub fn alphabet() -> Vec<Step> {
   a.finish(latest, None).state = control.clone();
   a.finish(latest, None).state = control_alt;
   a.finish(latest, None).layout = without.clone();
+  a.finish(latest, None).table = tables.none.clone();
   a.finish(latest, Some(message(0x102, 0x61, lparam(0x02))));
   a.finish(latest, Some(message(0x106, 0x61, lparam(0x02)))).state = control;
   a.finish(latest, Some(message(0x103, 0xB4, lparam(0x0D))));
@@ -107,6 +111,7 @@ pub fn alphabet() -> Vec<Step> {
   a.open(0x100, 0x31, lparam(0x02)).odd.push(Odd::SessionLength(65_535));
   a.finish(latest, None).odd.push(Odd::StateLength(255));
   a.open(0x7, 0, 0).odd.push(Odd::BlockLength(cut));
+  a.finish(latest, None).odd.push(Odd::TableLength(cut_table));
   a.all
 }
 

@@ -4,6 +4,7 @@ use crate::{
   layouts::{Layout, Layouts, KEYS},
   run::{Difference, Machine, Stopped},
   script::{lparam, message, state, Body, Message, State, Step, Token},
+  tables::{Table, Tables, CODES},
 };
 use std::sync::Arc;
 
@@ -104,6 +105,8 @@ pub struct Generator {
   layouts: Layouts,
   /// As often as they are to come.
   weighted: Vec<Arc<Layout>>,
+  tables: Tables,
+  weighted_tables: Vec<Arc<Table>>,
 }
 
 struct Player<'a> {
@@ -112,6 +115,7 @@ struct Player<'a> {
   d: Dice,
   manner: Manner,
   layout: Arc<Layout>,
+  table: Arc<Table>,
   state: State,
   steps: Vec<Step>,
   /// The character of long texts, and how often in a hundred it is that one.
@@ -119,7 +123,7 @@ struct Player<'a> {
   same: usize,
 }
 
-/// So many scripts have the same layouts.
+/// So many scripts have the same layouts and tables.
 const BATCH: u64 = 10_000;
 
 impl Generator {
@@ -133,7 +137,13 @@ impl Generator {
     for _ in 0..5 {
       weighted.extend([layouts.plain.clone(), layouts.accent.clone(), layouts.accent.clone(), layouts.odd.clone()]);
     }
-    Generator { batch, layouts, weighted }
+    let tables = Tables::batch(batch);
+    let mut weighted_tables = tables.all();
+    for _ in 0..8 {
+      weighted_tables.extend([tables.small.clone(), tables.unicode.clone()]);
+    }
+    weighted_tables.extend([tables.none.clone(), tables.none.clone()]);
+    Generator { batch, layouts, weighted, tables, weighted_tables }
   }
 
   /// Runs the script of a seed.
@@ -145,19 +155,19 @@ impl Generator {
     let mut d = Dice::new(seed);
     let manner = match d.below(1000) {
       0..=249 => Manner::Queue,
-      250..=599 => Manner::Any,
-      600..=679 => Manner::Deep,
-      680..=749 => Manner::Units,
-      750..=799 => Manner::Pieces,
+      250..=559 => Manner::Any,
+      560..=639 => Manner::Deep,
+      640..=709 => Manner::Units,
+      710..=799 => Manner::Pieces,
       800..=859 => Manner::Focus,
       860..=998 => Manner::Hostile,
       _ if d.now(12) => Manner::Tokens,
       _ => Manner::Hostile,
     };
-    let layout = self.layouts.plain.clone();
+    let (layout, table) = (self.layouts.plain.clone(), self.tables.small.clone());
     let code = d.of(&[0x20AC, 0x20AC, 0x1_F600, 0x61, 0x11_0000]);
     let same = d.of(&[0, 60, 100]);
-    let mut p = Player { g: self, m, d, manner, layout, state: state(&[]), steps: vec![], code, same };
+    let mut p = Player { g: self, m, d, manner, layout, table, state: state(&[]), steps: vec![], code, same };
     match p.whole() {
       Ok(()) => Ok(p.steps),
       Err(difference) => Err((p.steps, difference)),
@@ -193,8 +203,16 @@ impl Player<'_> {
         self.bring(message(kind, 0xB4, lparam(0x0D)))?;
       }
     }
-    let last = Step::new(&self.layout, &self.state, Body::Finish { token: Token::Latest, peeked: None });
+    let last = self.step(Body::Finish { token: Token::Latest, peeked: None });
     self.m.end(&last)
+  }
+
+  /// A call with keyboard and table as they are; the table is another one now and then.
+  fn step(&mut self, body: Body) -> Step {
+    if self.d.now(if self.manner == Manner::Pieces { 6 } else { 3 }) {
+      self.table();
+    }
+    Step::new(&self.layout, &self.state, body).with(&self.table)
   }
 
   fn play(&mut self, mut step: Step) -> Played {
@@ -206,16 +224,26 @@ impl Player<'_> {
   }
 
   fn bring(&mut self, m: Message) -> Played {
-    self.play(Step::new(&self.layout, &self.state, Body::Open(m)))
+    let step = self.step(Body::Open(m));
+    self.play(step)
   }
 
   fn finish(&mut self, token: Token, peeked: Option<Message>) -> Played {
-    self.play(Step::new(&self.layout, &self.state, Body::Finish { token, peeked }))
+    let step = self.step(Body::Finish { token, peeked });
+    self.play(step)
   }
 
-  // ---- keyboards
+  // ---- keyboards and tables
+
+  fn table(&mut self) {
+    let all = &self.g.weighted_tables;
+    self.table = all[self.d.below(all.len())].clone();
+  }
 
   fn keyboard(&mut self) {
+    if self.d.now(40) {
+      self.table();
+    }
     let (g, d) = (self.g, &mut self.d);
     self.layout = g.weighted[d.below(g.weighted.len())].clone();
     if self.manner == Manner::Focus && d.now(50) {
@@ -294,6 +322,7 @@ impl Player<'_> {
     match self.d.below(200) {
       0 => self.d.next(),
       1..=60 => self.d.of(&[0x31, 0x61, 0x301, 0xD83D, 0xDE00]),
+      61..=100 => self.d.of(&CODES).into(),
       _ => self.d.of(&CHARACTERS),
     }
   }
@@ -438,6 +467,7 @@ mod tests {
       Case::Refused7,
       Case::Refused9,
       Case::Refused10,
+      Case::Refused11,
       Case::Depth8,
       Case::PressFake,
       Case::ReleaseFake,
@@ -447,6 +477,21 @@ mod tests {
       Case::Several,
       Case::MostUnits,
       Case::Passing,
+      Case::PassingTable,
+      Case::OtherTable,
+      Case::Gb3,
+      Case::Gb4,
+      Case::Gb5,
+      Case::Gb6,
+      Case::Gb7,
+      Case::Gb8,
+      Case::Gb9,
+      Case::Gb9a,
+      Case::Gb9b,
+      Case::Gb11,
+      Case::Gb12,
+      Case::Gb13,
+      Case::Gb999,
       Case::Aside,
     ] {
       assert!(m.counts.of(case) > 0);

@@ -10,6 +10,7 @@ pub struct Lent<'a> {
   pub answers: &'a mut [u8],
   pub state: &'a [u8],
   pub block: &'a [u8],
+  pub table: &'a [u8],
 }
 
 /// What a call answered: 0 or the refusal's number; of an open what it wrote as token and as what becomes of `result`.
@@ -23,7 +24,8 @@ pub struct Said {
 pub fn open(l: Lent<'_>, kind: u32, wparam: u64, lparam: u64) -> Said {
   // Numbers that no call writes, so that a forgotten one is seen.
   let (mut token, mut result) = (0xDEAD_BEEF, 0xDEAD_BEEF);
-  let refused = raw::open(l.session, l.answers, l.state, l.block, kind, wparam, lparam, &mut token, &mut result);
+  let refused =
+    raw::open(l.session, l.answers, l.state, l.block, l.table, kind, wparam, lparam, &mut token, &mut result);
   Said { refused, token: Some(token), result: Some(result) }
 }
 
@@ -31,7 +33,7 @@ pub fn open(l: Lent<'_>, kind: u32, wparam: u64, lparam: u64) -> Said {
 pub fn finish(l: Lent<'_>, token: u32, peeked: Option<(u32, u64, u64)>) -> Said {
   // With nothing peeked the message's numbers are not to be read: they would be more characters, and AltGr.
   let (kind, wparam, lparam) = peeked.unwrap_or((0x102, 0x31, 0x138_0001));
-  let refused =
-    raw::finish(l.session, l.answers, l.state, l.block, token, peeked.is_some().into(), kind, wparam, lparam);
+  let peeked = peeked.is_some().into();
+  let refused = raw::finish(l.session, l.answers, l.state, l.block, l.table, token, peeked, kind, wparam, lparam);
   Said { refused, token: None, result: None }
 }

@@ -4,11 +4,13 @@ use crate::{
   library::AREA,
   run::{Difference, Machine, Stopped},
   script::{lparam, message, state, up, Body, Message, Odd, State, Step, Token},
+  tables::small,
 };
 use std::sync::Arc;
 
 mod blocks;
 mod readers;
+mod tables;
 
 /// A script, and the number that each call gets: 0 where it is answered.
 struct Case {
@@ -224,11 +226,14 @@ fn lengths(l: &Layouts) -> Vec<Case> {
   let own = l.block.len();
   let areas = [0, 1, 2, 109, 65_535, 65_537, 65_600];
   let blocks = [0, 1, 2, 74, 2633, 2634, own - 1, own + 1, own + 16, 65_536, 65_537];
+  let table = small().bytes.len();
+  let tables = [0, 1, 7, 8, 9, 17, table - 9, table - 1, table + 1, table + 9, 65_536, 65_537];
   vec![
     length(l, 1, Odd::SessionLength, &areas, AREA),
     length(l, 1, Odd::AnswersLength, &areas, AREA),
     length(l, 2, Odd::StateLength, &[0, 1, 128, 255, 257, 512, 65_536], 256),
     length(l, 3, Odd::BlockLength, &blocks, own),
+    length(l, 11, Odd::TableLength, &tables, table),
   ]
 }
 
@@ -238,13 +243,14 @@ fn order(l: &Layouts) -> Vec<Case> {
     (1, vec![Odd::AnswersLength(65_535)]),
     (2, vec![Odd::StateLength(257)]),
     (3, vec![Odd::BlockByte(1, 1)]),
+    (11, vec![Odd::TableByte(0, 1)]),
     (4, vec![Odd::SessionByte(65_535, 1)]),
   ];
   let dead = Body::Open(message(0x103, 0xB4, 1));
   let wrong = Body::Finish { token: Token::Off(1), peeked: None };
   let mut c = Case::new("several questions", &l.accent);
   c.open(0, 0x100, 0x31, lparam(0x02));
-  for mask in 0..16 {
+  for mask in 0..32 {
     let some: Vec<&(u32, Vec<Odd>)> = odd.iter().enumerate().filter(|(i, _)| mask >> i & 1 == 1).map(|o| o.1).collect();
     let all: Vec<Odd> = some.iter().flat_map(|o| o.1.clone()).collect();
     let first = some.first().map(|o| o.0);
@@ -278,8 +284,17 @@ fn wrong_tokens(l: &Layouts) -> Vec<Case> {
 /// Runs all. Gives the number of scripts.
 pub fn run(m: &mut Machine) -> Result<usize, (String, Stopped)> {
   let l = Layouts::new();
-  let groups =
-    [open_messages(&l), entries(&l), tokens(&l), units(&l), lengths(&l), order(&l), wrong_tokens(&l), blocks::cases()];
+  let groups = [
+    open_messages(&l),
+    entries(&l),
+    tokens(&l),
+    units(&l),
+    lengths(&l),
+    order(&l),
+    wrong_tokens(&l),
+    blocks::cases(),
+    tables::cases(&l),
+  ];
   let all: Vec<Case> = groups.into_iter().flatten().collect();
   for c in &all {
     let outcome = m.run(&c.steps).and_then(|()| match m.said.iter().zip(&c.said).position(|(a, b)| a != b) {

@@ -11,6 +11,7 @@ mod limits;
 mod run;
 mod script;
 mod shrink;
+mod tables;
 
 use count::grouped;
 use generate::Generator;
@@ -52,7 +53,9 @@ fn limits(m: &mut Machine) -> Result<(), Parted> {
 
 fn damage(m: &mut Machine) -> Result<(), Parted> {
   let d = damage::run(m).map_err(|stopped| ("damage".into(), stopped))?;
-  for (what, (all, fine)) in [("blocks", d.blocks), ("session areas", d.sessions), ("answer areas", d.answers)] {
+  let parts =
+    [("blocks", d.blocks), ("break tables", d.tables), ("session areas", d.sessions), ("answer areas", d.answers)];
+  for (what, (all, fine)) in parts {
     println!("{} damaged {what}, of which {} are still in order: no difference", grouped(all), grouped(fine));
   }
   Ok(())
@@ -77,9 +80,9 @@ fn report((name, (steps, first)): Parted) {
     show(&steps);
     return;
   }
-  let layouts = layouts::Layouts::new().all();
+  let (layouts, tables) = (layouts::Layouts::new().all(), tables::Tables::new().all());
   let long = steps.len();
-  let short = shrink::shrink(steps, &layouts, &mut |s| Machine::new().run(s).is_err());
+  let short = shrink::shrink(steps, &layouts, &tables, &mut |s| Machine::new().run(s).is_err());
   println!("{} of its {long} calls are enough:", short.len());
   show(&short);
   if let Err(Difference { at, what }) = Machine::new().run(&short) {

@@ -9,6 +9,7 @@ use crate::{
   layouts::{forget_passing, passing_id, Layout},
   library::{self, Lent, Said, AREA, FIELDS, NONE, TEXT_MOST},
   script::{Body, Odd, Step, Token},
+  tables::Table,
 };
 use areas::{
   event,
@@ -62,14 +63,14 @@ impl Guarded {
   }
 }
 
-/// What a call with odd inputs is lent: lengths of the areas, key state, block.
+/// What a call with odd inputs is lent: lengths of the areas, key state, block, break table.
 struct Inputs {
   session: usize,
   answers: usize,
   state: Vec<u8>,
   block: Vec<u8>,
+  table: Vec<u8>,
   other_session: bool,
-  other_block: bool,
 }
 
 /// An answered call, as the library answered it.
@@ -194,7 +195,7 @@ impl Machine {
     Ok(())
   }
 
-  /// A call whose inputs pass questions 1 to 4.
+  /// A call whose inputs pass questions 1 to 4 and 11.
   fn plain(&mut self, step: &Step) -> Outcome<()> {
     let expected = match step.body {
       Body::Open(m) => open_refused_in(&self.now, &step.layout.maps, &step.state, m.kind, m.wparam, m.lparam),
@@ -204,18 +205,19 @@ impl Machine {
       self.session_before.copy_from_slice(self.session.area());
       self.answers_before.copy_from_slice(self.answers.area());
     }
-    let said = self.call(step, &step.state[..], &step.layout.block, AREA, AREA);
+    let said = self.call(step, &step.state[..], &step.layout.block, &step.table.bytes, (AREA, AREA));
     self.refusal(expected, said)?;
     if said.refused != 0 {
       return self.kept();
     }
-    self.answered(step, &step.layout, said)
+    self.answered(step, &step.layout, &step.table, said)
   }
 
-  /// The library's answer; the areas are lent with these lengths.
-  fn call(&mut self, step: &Step, state: &[u8], block: &[u8], session: usize, answers: usize) -> Said {
+  /// The library's answer; session and answer area are lent with these lengths.
+  fn call(&mut self, step: &Step, state: &[u8], block: &[u8], table: &[u8], lengths: (usize, usize)) -> Said {
     let token = self.token_of(step);
-    let lent = Lent { session: self.session.lent(session), answers: self.answers.lent(answers), state, block };
+    let (session, answers) = (self.session.lent(lengths.0), self.answers.lent(lengths.1));
+    let lent = Lent { session, answers, state, block, table };
     match step.body {
       Body::Open(m) => library::open(lent, m.kind, m.wparam, m.lparam),
       Body::Finish { peeked, .. } => library::finish(lent, token, peeked.map(|m| (m.kind, m.wparam, m.lparam))),
@@ -260,8 +262,12 @@ impl Machine {
 
   /// The inputs of a call with what is odd about them; a changed byte of the session area is changed in its place.
   fn inputs(&mut self, step: &Step) -> Inputs {
-    let (state, block) = (step.state.to_vec(), step.layout.block.clone());
-    let mut to = Inputs { session: AREA, answers: AREA, state, block, other_session: false, other_block: false };
+    let (state, block, table) = (step.state.to_vec(), step.layout.block.clone(), step.table.bytes.clone());
+    let mut to = Inputs { session: AREA, answers: AREA, state, block, table, other_session: false };
+    let change = |bytes: &mut Vec<u8>, at: usize, by: u8| {
+      let length = bytes.len().max(1);
+      bytes.iter_mut().skip(at % length).take(1).for_each(|b| *b ^= by);
+    };
     for odd in &step.odd {
       match *odd {
         Odd::SessionLength(n) => to.session = n,
@@ -269,17 +275,16 @@ impl Machine {
         Odd::StateLength(n) => to.state.resize(n, 0),
         Odd::Block(ref bytes) => to.block = bytes.0.to_vec(),
         Odd::BlockLength(n) => to.block.resize(n, 0),
-        Odd::BlockByte(at, by) => {
-          let length = to.block.len().max(1);
-          to.block.iter_mut().skip(at % length).take(1).for_each(|b| *b ^= by);
-        }
+        Odd::BlockByte(at, by) => change(&mut to.block, at, by),
+        Odd::Table(ref bytes) => to.table = bytes.0.to_vec(),
+        Odd::TableLength(n) => to.table.resize(n, 0),
+        Odd::TableByte(at, by) => change(&mut to.table, at, by),
         Odd::SessionByte(at, by) => {
           self.session.area_mut()[at % AREA] ^= by;
           to.other_session = true;
         }
       }
     }
-    to.other_block = to.block != step.layout.block;
     to
   }
 
@@ -288,8 +293,8 @@ impl Machine {
     let session = &self.session.0[GUARD..GUARD + to.session];
     let answers = &self.answers.0[GUARD..GUARD + to.answers];
     match step.body {
-      Body::Open(m) => open_refused(session, answers, &to.state, &to.block, m.kind, m.wparam, m.lparam),
-      Body::Finish { .. } => finish_refused(session, answers, &to.state, &to.block, self.token_of(step)),
+      Body::Open(m) => open_refused(session, answers, &to.state, &to.block, &to.table, m.kind, m.wparam, m.lparam),
+      Body::Finish { .. } => finish_refused(session, answers, &to.state, &to.block, &to.table, self.token_of(step)),
     }
   }
 
@@ -300,12 +305,11 @@ impl Machine {
     self.session_before.copy_from_slice(self.session.area());
     self.answers_before.copy_from_slice(self.answers.area());
     let expected = self.questions(step, &to);
-    let said = self.call(step, &to.state, &to.block, to.session, to.answers);
+    let said = self.call(step, &to.state, &to.block, &to.table, (to.session, to.answers));
     self.guards()?;
     self.refusal(expected, said)?;
     match (said.refused, to.other_session) {
-      (0, false) if to.other_block => self.passing(step, to.block, said),
-      (0, false) => self.answered(step, &step.layout, said),
+      (0, false) => self.passing(step, to, said),
       (0, true) => self.aside(&before),
       _ => {
         self.kept()?;
@@ -327,13 +331,22 @@ impl Machine {
     Ok(())
   }
 
-  /// Behind an answered call with another block: tao is given the maps that it stands for.
-  fn passing(&mut self, step: &Step, block: Vec<u8>, said: Said) -> Outcome<()> {
-    self.counts.add(Case::Passing);
-    let name = format!("{} changed", step.layout.name);
-    match Layout::read(&name, passing_id(), block) {
-      Some(layout) => self.answered(step, &layout, said),
-      None => self.differs("the block is no block"),
+  /// Behind an answered call: tao is given the maps and the ranges that another block and another table stand for.
+  fn passing(&mut self, step: &Step, to: Inputs, said: Said) -> Outcome<()> {
+    let mut layout = Some(step.layout.clone());
+    if to.block != step.layout.block {
+      self.counts.add(Case::Passing);
+      layout = Layout::read(&format!("{} changed", step.layout.name), passing_id(), to.block);
+    }
+    let mut table = Some(step.table.clone());
+    if to.table != step.table.bytes {
+      self.counts.add(Case::PassingTable);
+      table = Table::read(&format!("{} changed", step.table.name), to.table);
+    }
+    match (layout, table) {
+      (Some(layout), Some(table)) => self.answered(step, &layout, &table, said),
+      (None, _) => self.differs("the block is no block"),
+      (_, None) => self.differs("the table is no table"),
     }
   }
 
@@ -380,7 +393,7 @@ impl Machine {
   }
 
   /// Behind an answered call: the areas are read, and the call is kept for tao.
-  fn answered(&mut self, step: &Step, layout: &Arc<Layout>, said: Said) -> Outcome<()> {
+  fn answered(&mut self, step: &Step, layout: &Arc<Layout>, table: &Arc<Table>, said: Said) -> Outcome<()> {
     let n = self.events_behind()?;
     let (bytes, fields, texts) = (self.bytes.len(), self.fields.len(), self.texts.len());
     self.bytes.extend_from_slice(&self.answers.0[GUARD + 2..GUARD + 2 + n * event::EVENT]);
@@ -393,10 +406,14 @@ impl Machine {
       Body::Open(m) => kbtypes::Body::Open { kind: m.kind, wparam: m.wparam, lparam: m.lparam },
       Body::Finish { peeked, .. } => kbtypes::Body::Finish { token: 0, peeked },
     };
-    let call = Call { body, state: step.state.clone(), layout: layout.maps.clone() };
+    let (layout, table) = (layout.maps.clone(), table.ranges.clone());
+    let call = Call { body, state: step.state.clone(), layout, table };
     match step.body {
       Body::Open(m) => self.counts.opened(&m, &self.now, &behind, opened.is_some(), n),
-      Body::Finish { peeked, .. } => self.counts.finished(&call, peeked, &self.now, &behind, n),
+      Body::Finish { peeked, .. } => {
+        self.counts.finished(&call, peeked, &self.now, &behind, n);
+        self.counts.pieces(&call, self.calls.last(), &self.now, &behind);
+      }
     }
     self.counts.add(Case::Answered);
     self.calls.push(call);
@@ -412,7 +429,7 @@ impl Machine {
     let body = Body::Finish { token: Token::Latest, peeked: None };
     while self.now.latest().is_some() {
       let open = self.now.open();
-      self.step(&Step::new(&like.layout, &like.state, body))?;
+      self.step(&Step::new(&like.layout, &like.state, body).with(&like.table))?;
       if self.now.open() + 1 != open {
         return self.differs("a closing left the number of open messages");
       }

@@ -1,5 +1,8 @@
 //! Scripts: lists of calls, some with inputs that a question refuses.
-use crate::layouts::Layout;
+use crate::{
+  layouts::Layout,
+  tables::{small, Table},
+};
 use kbtypes::Peeked;
 use std::{fmt, sync::Arc};
 
@@ -49,7 +52,11 @@ pub enum Odd {
   BlockLength(usize),
   /// The block's byte at this place, counted round, is changed by xor.
   BlockByte(usize, u8),
-  /// The same of the session area. The call is made on a copy, and the session goes on without it.
+  /// The same three of the break table.
+  Table(Bytes),
+  TableLength(usize),
+  TableByte(usize, u8),
+  /// The session area's byte. The call is made on a copy, and the session goes on without it.
   SessionByte(usize, u8),
 }
 
@@ -57,6 +64,7 @@ pub enum Odd {
 pub struct Step {
   pub body: Body,
   pub layout: Arc<Layout>,
+  pub table: Arc<Table>,
   pub state: State,
   pub odd: Vec<Odd>,
   /// The answer area is filled with this byte before the call.
@@ -64,8 +72,14 @@ pub struct Step {
 }
 
 impl Step {
+  /// With the small table.
   pub fn new(layout: &Arc<Layout>, state: &State, body: Body) -> Self {
-    Step { body, layout: layout.clone(), state: state.clone(), odd: vec![], fill: None }
+    Step { body, layout: layout.clone(), table: small(), state: state.clone(), odd: vec![], fill: None }
+  }
+
+  pub fn with(mut self, table: &Arc<Table>) -> Self {
+    self.table = table.clone();
+    self
   }
 
   pub fn odd(mut self, odd: Odd) -> Self {
@@ -106,7 +120,7 @@ impl fmt::Debug for Step {
         }
       }
     }
-    write!(f, "; layout {}", self.layout.name)?;
+    write!(f, "; layout {}, table {}", self.layout.name, self.table.name)?;
     let down: Vec<String> =
       self.state.iter().enumerate().filter(|(_, b)| **b != 0).map(|(i, b)| format!("{i:02X}:{b:02X}")).collect();
     if !down.is_empty() {

@@ -2,6 +2,7 @@
 use crate::{
   layouts::Layout,
   script::{message, state, Body, Message, Step, Token},
+  tables::Table,
 };
 use std::sync::Arc;
 
@@ -72,10 +73,10 @@ impl Shrinker<'_> {
   }
 
   /// Makes each call simpler.
-  fn simplify(&mut self, layouts: &[Arc<Layout>]) -> bool {
+  fn simplify(&mut self, layouts: &[Arc<Layout>], tables: &[Arc<Table>]) -> bool {
     let mut better = false;
     for at in 0..self.steps.len() {
-      for simpler in simpler(&self.steps[at], layouts) {
+      for simpler in simpler(&self.steps[at], layouts, tables) {
         if self.try_step(at, simpler) {
           better = true;
           break;
@@ -152,7 +153,7 @@ fn simpler_messages(m: Message) -> Vec<Message> {
 }
 
 /// Simpler calls in its place, the simplest first. Each is smaller by some measure, so that shortening ends.
-fn simpler(step: &Step, layouts: &[Arc<Layout>]) -> Vec<Step> {
+fn simpler(step: &Step, layouts: &[Arc<Layout>], tables: &[Arc<Table>]) -> Vec<Step> {
   let mut all = vec![];
   let mut with = |change: &dyn Fn(&mut Step)| {
     let mut s = step.clone();
@@ -165,6 +166,10 @@ fn simpler(step: &Step, layouts: &[Arc<Layout>]) -> Vec<Step> {
   let place = layouts.iter().position(|l| l.name == step.layout.name).unwrap_or(layouts.len());
   for l in &layouts[..place] {
     with(&|s| s.layout = l.clone());
+  }
+  let place = tables.iter().position(|t| t.name == step.table.name).unwrap_or(tables.len());
+  for t in &tables[..place] {
+    with(&|s| s.table = t.clone());
   }
   if step.fill.is_some() {
     with(&|s| s.fill = None);
@@ -195,13 +200,19 @@ fn simpler(step: &Step, layouts: &[Arc<Layout>]) -> Vec<Step> {
   all
 }
 
-/// The shortest script found. `layouts` has the simplest first. `fails` says whether a script shows a difference.
-pub fn shrink(steps: Vec<Step>, layouts: &[Arc<Layout>], fails: &mut dyn FnMut(&[Step]) -> bool) -> Vec<Step> {
+/// The shortest script found. `layouts` and `tables` have the simplest first. `fails` says whether a script shows a
+/// difference.
+pub fn shrink(
+  steps: Vec<Step>,
+  layouts: &[Arc<Layout>],
+  tables: &[Arc<Table>],
+  fails: &mut dyn FnMut(&[Step]) -> bool,
+) -> Vec<Step> {
   let mut s = Shrinker { steps, fails, left: CALLS };
   loop {
     let mut better = s.drop_chunks();
     better |= s.drop_pairs();
-    better |= s.simplify(layouts);
+    better |= s.simplify(layouts, tables);
     if !better {
       return s.steps;
     }
@@ -211,7 +222,7 @@ pub fn shrink(steps: Vec<Step>, layouts: &[Arc<Layout>], fails: &mut dyn FnMut(&
 #[cfg(test)]
 mod tests {
   use super::*;
-  use crate::{generate::Generator, layouts::Layouts, run::Machine, script::Odd};
+  use crate::{generate::Generator, layouts::Layouts, run::Machine, script::Odd, tables::Tables};
 
   fn open(l: &Arc<Layout>, kind: u32, wparam: u64) -> Step {
     Step::new(l, &state(&[(0x31, 0x80), (0xA2, 0x80)]), Body::Open(message(kind, wparam, 0xC01D_0001)))
@@ -246,7 +257,7 @@ mod tests {
       matches!((press, last), (Some(a), Some(b)) if a < b)
     };
     assert!(fails(&steps));
-    let short = shrink(steps, &all, &mut fails);
+    let short = shrink(steps, &all, &Tables::new().all(), &mut fails);
     assert_eq!(short.len(), 2);
     let down = |s: &Step| s.state.iter().enumerate().filter(|(_, b)| **b != 0).map(|(i, _)| i).collect::<Vec<_>>();
     assert_eq!((down(&short[0]), down(&short[1])), (vec![0xA2], vec![]));
@@ -255,6 +266,7 @@ mod tests {
     assert_eq!(short[1].body, Body::Finish { token: Token::Latest, peeked });
     assert_eq!(short[1].odd, [Odd::StateLength(255)]);
     assert_eq!([&short[0].layout.name, &short[1].layout.name], [&all[0].name; 2]);
+    assert_eq!([&short[0].table.name, &short[1].table.name], ["none"; 2]);
     assert!(runs < 2000, "{runs}");
   }
 
@@ -275,7 +287,7 @@ mod tests {
       fine && open == 0 && s.iter().any(|s| kind(s) == 0x101)
     };
     assert!(balanced(&steps));
-    let short = shrink(steps, &all, &mut |s| balanced(s));
+    let short = shrink(steps, &all, &[], &mut |s| balanced(s));
     assert_eq!(short.iter().map(kind).collect::<Vec<_>>(), [0x101, 0]);
   }
 
@@ -283,13 +295,13 @@ mod tests {
   #[test]
   fn a_difference_is_found_and_shortened() {
     let all = Layouts::new().all();
-    tao_oracle::set_counter(|t| t.chars().count());
+    tao_oracle::set_counter(|_, t| t.chars().count());
     let mut g = Generator::new();
     let mut m = Machine::new();
     let stopped = (0..5000).find_map(|seed| g.script(seed, &mut m).err());
     let (steps, _) = stopped.expect("a difference");
-    let short = shrink(steps, &all, &mut |s| Machine::new().run(s).is_err());
-    tao_oracle::set_counter(tao_oracle::stand_in);
+    let short = shrink(steps, &all, &Tables::new().all(), &mut |s| Machine::new().run(s).is_err());
+    tao_oracle::set_counter(tao_oracle::clusters);
     assert!(Machine::new().run(&short).is_ok());
     // a press and its finish, two characters, and the first one's finish; the second's is the closing
     assert!(short.len() <= 5, "{short:?}");
@@ -299,6 +311,6 @@ mod tests {
   fn nothing_left_where_anything_fails() {
     let all = Layouts::new().all();
     let steps = vec![open(&all[0], 0x100, 1); 5];
-    assert!(shrink(steps, &all, &mut |_| true).is_empty());
+    assert!(shrink(steps, &all, &[], &mut |_| true).is_empty());
   }
 }

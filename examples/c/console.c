@@ -1,8 +1,9 @@
 /* Key messages in, key events out: a host of Mahjonglarch in C.
  *
- *     console BLOCK <MESSAGES
+ *     console BLOCK TABLE <MESSAGES
  *
- * BLOCK is the file of a layout block, as crates/station/data/us.block. Of the messages each line is one of these, with hexadecimal numbers:
+ * BLOCK is the file of a layout block, as crates/station/data/us.block, and TABLE that of a break table, as tables/unicode-15.0.breaks. Of the
+ * messages each line is one of these, with hexadecimal numbers:
  *
  *     # ..           printed as it is
  *     key VK BYTE    sets a byte of the key state: 80 the key is down, 0 it is up, 1 its lock is on
@@ -13,7 +14,7 @@
  *
  * Each call is printed with its answer, and each event that it hands out on a line of its own. `tools/hosts` builds this program and runs it on
  * the file `messages` beside it; `expected` has what it is to print, which is not this program's own word: tools/hosts says where it is from.
- * Exit status: 0, also where calls were refused; 1 where the block can't be read or a card has no room; 2 at a line of another form. */
+ * Exit status: 0, also where calls were refused; 1 where block or table can't be read or a card has no room; 2 at a line of another form. */
 #include <stdio.h>
 #include <stdlib.h>
 #include <string.h>
@@ -38,6 +39,7 @@ static const char *const REFUSALS[] = {
     "more than 4,096 tokens since the queue was empty",
     "more than sixteen units for a press",
     "not the token of the latest open message",
+    "the break table is not in order",
 };
 
 /* What the host keeps. The areas are large, so nothing of this is on the stack. */
@@ -46,6 +48,8 @@ static uint8_t answers[MAHJONGLARCH_AREA_SIZE];
 static uint8_t state[MAHJONGLARCH_KEY_STATE_SIZE];
 static uint8_t block[MAHJONGLARCH_BLOCK_MOST + 1]; /* one more, so that a file that is too long is refused and not cut */
 static size_t block_len;
+static uint8_t table[MAHJONGLARCH_TABLE_MOST + 1]; /* the same */
+static size_t table_len;
 static uint32_t tokens[MAHJONGLARCH_OPEN_MOST]; /* of the open messages, the latest last */
 static size_t open_count;
 static char card[256];
@@ -162,8 +166,8 @@ static void open_message(const struct message *m) {
     uint32_t token, result, number;
     printf("open ");
     show_message(m);
-    number = mahjonglarch_open(session, sizeof session, answers, sizeof answers, state, sizeof state, block, block_len, m->kind, m->wparam,
-                               m->lparam, &token, &result);
+    number = mahjonglarch_open(session, sizeof session, answers, sizeof answers, state, sizeof state, block, block_len, table, table_len, m->kind,
+                               m->wparam, m->lparam, &token, &result);
     if (number != MAHJONGLARCH_ANSWERED) {
         show_refused(number);
         return;
@@ -189,8 +193,8 @@ static void finish_latest(const struct message *peeked) {
     printf(", peeked ");
     if (peeked) show_message(peeked);
     else printf("nothing");
-    number = mahjonglarch_finish(session, sizeof session, answers, sizeof answers, state, sizeof state, block, block_len, token, peeked != NULL,
-                                 m->kind, m->wparam, m->lparam);
+    number = mahjonglarch_finish(session, sizeof session, answers, sizeof answers, state, sizeof state, block, block_len, table, table_len, token,
+                                 peeked != NULL, m->kind, m->wparam, m->lparam);
     if (number != MAHJONGLARCH_ANSWERED) {
         show_refused(number);
         return;
@@ -273,14 +277,17 @@ static int do_lines(void) {
     return 0;
 }
 
-static int read_block(const char *path) {
+static int read_file(const char *path, uint8_t *bytes, size_t most, size_t *len) {
     FILE *file = fopen(path, "rb");
     int ok;
-    if (!file) return 0;
-    block_len = fread(block, 1, sizeof block, file);
-    ok = !ferror(file);
-    fclose(file);
-    return ok;
+    if (file) {
+        *len = fread(bytes, 1, most, file);
+        ok = !ferror(file);
+        fclose(file);
+        if (ok) return 1;
+    }
+    perror(path);
+    return 0;
 }
 
 static int is_fresh(void) {
@@ -291,14 +298,11 @@ static int is_fresh(void) {
 
 int main(int argc, char **argv) {
     int status;
-    if (argc != 2) {
-        fprintf(stderr, "usage: console BLOCK <MESSAGES\n");
+    if (argc != 3) {
+        fprintf(stderr, "usage: console BLOCK TABLE <MESSAGES\n");
         return 1;
     }
-    if (!read_block(argv[1])) {
-        perror(argv[1]);
-        return 1;
-    }
+    if (!read_file(argv[1], block, sizeof block, &block_len) || !read_file(argv[2], table, sizeof table, &table_len)) return 1;
     if (mahjonglarch_interface() != MAHJONGLARCH_INTERFACE) {
         fprintf(stderr, "the library has another interface\n");
         return 1;

@@ -10,6 +10,8 @@ use std::{
 
 const CARD: &str = "89310410106543789301";
 const BLOCK: &[u8] = include_bytes!("../../../crates/station/data/us.block");
+/// Unicode's break table: the same for every layout, so it is read once.
+const TABLE: &[u8] = include_bytes!("../../../tables/unicode-15.0.breaks");
 
 /// How often a finish is brought again before the station stops.
 const FINISH_TRIES: usize = 3;
@@ -58,7 +60,7 @@ impl Host {
 
   fn open(&self, message: Message) -> Result<(Option<Token>, ResultChange), Refusal> {
     let (mut session, mut answers, state) = (self.session.borrow_mut(), self.answers.borrow_mut(), self.state.borrow());
-    let keyboard = Keyboard { state: &state, block: self.block() };
+    let keyboard = Keyboard { state: &state, block: self.block(), table: TABLE };
     let opened = session.open(&mut answers, keyboard, message)?;
     opened.events.for_each(|event| self.take(event));
     Ok((opened.token, opened.result))
@@ -81,7 +83,7 @@ impl Host {
 
   fn try_finish(&self, token: Token, peeked: Peeked) -> Result<(), NotFinished> {
     let (mut session, mut answers, state) = (self.session.borrow_mut(), self.answers.borrow_mut(), self.state.borrow());
-    let keyboard = Keyboard { state: &state, block: self.block() };
+    let keyboard = Keyboard { state: &state, block: self.block(), table: TABLE };
     session.finish(&mut answers, keyboard, token, peeked)?.for_each(|event| self.take(event));
     Ok(())
   }

@@ -4,16 +4,17 @@
 //! each hands out the events that are complete by then, every event once, in the order in which their messages arrived. While a message is
 //! open further ones may be opened (Windows re-enters the window procedure while it peeks); the latest is finished first.
 //!
-//! Windows stays outside: messages, the 256 bytes of the key state and the layout block (docs/AREAS.md of the repository lays it out) are
-//! brought by the host, so all of this runs anywhere on x86-64.
+//! Windows stays outside: messages, the 256 bytes of the key state, the layout block and the break table (docs/AREAS.md of the repository lays
+//! them out) are brought by the host, so all of this runs anywhere on x86-64.
 //!
 //! ```
 //! use mahjonglarch::{Answers, Keyboard, Message, Peeked, ResultChange, Session, WM_CHAR, WM_KEYDOWN, WM_KEYUP};
 //!
 //! let block = include_bytes!("../../../crates/station/data/us.block");
+//! let table = include_bytes!("../../../tables/unicode-15.0.breaks");
 //! let mut state = [0; 256];
 //! state[0x31] = 0x80; // the key 1 is down
-//! let keyboard = Keyboard { state: &state, block };
+//! let keyboard = Keyboard { state: &state, block, table };
 //! let (mut session, mut answers) = (Session::new(), Answers::new());
 //!
 //! // The press comes first; the character behind it is what it types.
@@ -37,7 +38,7 @@
 //! - heed both answers, and bring a refused finish again with the token that it gives back ([`Refusal`] says what to do at each);
 //! - take the events of each answered call before the answer area is lent again (the borrow sees to that), and of a refused call none;
 //! - read the key state anew for each half of a message, for [`WM_SETFOCUS`] what `GetAsyncKeyState` says (bit 7) with the locks of `GetKeyState`
-//!   (bit 0), and bring the block of the layout in force;
+//!   (bit 0), and bring the block of the layout in force and the break table, which is the same for all layouts;
 //! - finish the latest message first, and hold no borrow of session or answers across the peek, which can enter the window procedure again
 //!   (`examples/shift.rs` has one that does not);
 //! - take no text of a synthetic press: it was typed before, and it can come out before the typed one;
@@ -73,6 +74,8 @@ pub const AREA_SIZE: usize = 65_536;
 pub const KEY_STATE_SIZE: usize = 256;
 /// Bytes of a layout block, at most.
 pub const BLOCK_MOST: usize = 65_536;
+/// Bytes of a break table, at most.
+pub const TABLE_MOST: usize = 65_536;
 /// Messages open together.
 pub const OPEN_MOST: usize = 8;
 /// Entries of a session's queue, and so events of one call.

@@ -5,7 +5,7 @@ use std::{error::Error, fmt};
 /// The first question that a call failed. A refused call changes no byte of either area.
 ///
 /// A refused open took no part in the session: its message is not processed. A refused finish leaves its message open; with the refusals 1 to 3
-/// the same token is answered once the inputs are in order.
+/// and 11 the same token is answered once the inputs are in order. Questions 1 to 3, 11 and 4, in this order, are put to every call.
 #[derive(Clone, Copy, PartialEq, Eq, Hash, Debug)]
 #[non_exhaustive]
 #[repr(u32)]
@@ -31,10 +31,13 @@ pub enum Refusal {
   TooManyUnits = 9,
   /// To finish: is the token that of the latest open message? Finish the later messages first.
   NotLatest = 10,
+  /// Is the break table at most 65,536 bytes and laid out as docs/AREAS.md says? Asked behind [`Refusal::Block`]. Read the table anew and bring
+  /// the call again; stop the station if the table stays so, since everything behind an unfinished message waits.
+  Table = 11,
 }
 
 impl Refusal {
-  const ALL: [Refusal; 10] = [
+  const ALL: [Refusal; 11] = [
     Refusal::AreaSize,
     Refusal::KeyStateSize,
     Refusal::Block,
@@ -45,9 +48,10 @@ impl Refusal {
     Refusal::TokensUsed,
     Refusal::TooManyUnits,
     Refusal::NotLatest,
+    Refusal::Table,
   ];
 
-  /// The number of the question, 1 to 10.
+  /// The number of the question, 1 to 11.
   pub fn number(self) -> u32 {
     self as u32
   }
@@ -71,6 +75,7 @@ impl fmt::Display for Refusal {
       Refusal::TokensUsed => "more than 4,096 tokens since the queue was empty",
       Refusal::TooManyUnits => "more than sixteen units for a press",
       Refusal::NotLatest => "not the token of the latest open message",
+      Refusal::Table => "the break table is not in order",
     };
     write!(f, "refused {}: {why}", self.number())
   }

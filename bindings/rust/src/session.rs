@@ -5,19 +5,24 @@ use crate::{
 };
 use std::fmt;
 
-/// The keyboard as it is at a call: a press reads it at its finish, a character at its finish, a release at its open.
+/// The keyboard as it is at a call, and the break table: a press reads the keyboard at its finish, a character at its finish, a release at its
+/// open.
 #[derive(Clone, Copy)]
 pub struct Keyboard<'a> {
   /// For each virtual key, bit 7 where it is down and bit 0 where a lock is on (`GetKeyboardState`).
   pub state: &'a [u8; KEY_STATE_SIZE],
   /// The layout block (docs/AREAS.md).
   pub block: &'a [u8],
+  /// The break table (docs/AREAS.md), by which the pieces of a typed text are counted at the finish of its last character.
+  /// `tables/unicode-15.0.breaks` of the repository is Unicode 15.0's.
+  pub table: &'a [u8],
 }
 
-/// Says how long the block is and not which keys are down.
+/// Says how long block and table are and not which keys are down.
 impl fmt::Debug for Keyboard<'_> {
   fn fmt(&self, f: &mut fmt::Formatter<'_>) -> fmt::Result {
-    f.debug_struct("Keyboard").field("block", &self.block.len()).finish_non_exhaustive()
+    let mut shown = f.debug_struct("Keyboard");
+    shown.field("block", &self.block.len()).field("table", &self.table.len()).finish_non_exhaustive()
   }
 }
 
@@ -68,6 +73,7 @@ impl Session {
       answers.area.bytes_mut(),
       keyboard.state,
       keyboard.block,
+      keyboard.table,
       kind,
       wparam,
       lparam,
@@ -82,8 +88,8 @@ impl Session {
   }
 
   /// Finishes the latest open message with what was peeked. `answers` takes the events, which are lent. A refused call changes neither area:
-  /// the message is still open, all that arrived behind it waits, and the token comes back. The latest one, refused with 1 to 3 and brought
-  /// again with inputs in order, is answered, and everything comes out in order.
+  /// the message is still open, all that arrived behind it waits, and the token comes back. The latest one, refused with 1 to 3 or 11 and
+  /// brought again with inputs in order, is answered, and everything comes out in order.
   pub fn finish<'a>(
     &mut self,
     answers: &'a mut Answers,
@@ -100,6 +106,7 @@ impl Session {
       answers.area.bytes_mut(),
       keyboard.state,
       keyboard.block,
+      keyboard.table,
       token.number(),
       present,
       kind,

@@ -10,6 +10,7 @@ struct Areas {
   answers: Vec<u8>,
   state: Vec<u8>,
   block: Vec<u8>,
+  table: Vec<u8>,
 }
 
 impl Areas {
@@ -19,18 +20,22 @@ impl Areas {
     let (_, answers) = host.areas();
     host.open(press('1')).unwrap();
     let (session, _) = host.areas();
-    Areas { session, answers, state: vec![0; KEY_STATE_SIZE], block: US.to_vec() }
+    Areas { session, answers, state: vec![0; KEY_STATE_SIZE], block: US.to_vec(), table: UNICODE.to_vec() }
   }
 
   fn open(&mut self) -> (u32, u32, u32) {
+    self.bring(release('2'))
+  }
+
+  fn bring(&mut self, m: Message) -> (u32, u32, u32) {
     let (mut token, mut result) = (7, 7);
-    let m = release('2');
     let a = &mut *self;
     let number = raw::open(
       &mut a.session,
       &mut a.answers,
       &a.state,
       &a.block,
+      &a.table,
       m.kind,
       m.wparam,
       m.lparam,
@@ -42,7 +47,7 @@ impl Areas {
 
   fn finish(&mut self, token: u32) -> u32 {
     let a = &mut *self;
-    raw::finish(&mut a.session, &mut a.answers, &a.state, &a.block, token, 0, 0, 0, 0)
+    raw::finish(&mut a.session, &mut a.answers, &a.state, &a.block, &a.table, token, 0, 0, 0, 0)
   }
 
   /// Both calls are refused with the number, and change nothing.
@@ -50,6 +55,7 @@ impl Areas {
   fn refuses(mut self, number: u32) {
     let before = (self.session.clone(), self.answers.clone());
     assert_eq!(self.open(), (number, raw::NONE, 0));
+    assert_eq!(self.bring(Message::new(0x200, 0, 0)), (number, raw::NONE, 0)); // an unhandled kind
     assert_eq!(self.finish(0), number);
     assert!(before == (self.session, self.answers));
   }
@@ -104,7 +110,92 @@ fn session_4() {
   with(|a| a.session.fill(0xFF)).refuses(4);
 }
 
-/// The number is that of the first question that fails.
+/// A break table, as docs/AREAS.md lays it out.
+fn table(ranges: &[(u32, u32, u8)]) -> Vec<u8> {
+  let mut bytes = vec![0; 4];
+  bytes.extend((ranges.len() as u32).to_le_bytes());
+  bytes.extend(ranges.iter().flat_map(|range| range.0.to_le_bytes()));
+  bytes.extend(ranges.iter().flat_map(|range| range.1.to_le_bytes()));
+  bytes.extend(ranges.iter().map(|range| range.2));
+  bytes
+}
+
+/// The press is finished and its area is the fresh one again.
+#[track_caller]
+fn passes_11(table: Vec<u8>) {
+  let mut areas = with(|a| a.table = table);
+  assert_eq!(areas.finish(0), 0);
+  assert!(areas.session.iter().all(|byte| *byte == 0));
+}
+
+#[test]
+fn table_11_by_its_layout() {
+  with(|a| a.table.truncate(UNICODE.len() - 1)).refuses(11);
+  with(|a| a.table.push(0)).refuses(11);
+  with(|a| a.table.clear()).refuses(11); // no bytes are no table
+  with(|a| a.table = vec![0; 7]).refuses(11);
+  with(|a| a.table.resize(TABLE_MOST + 1, 0)).refuses(11);
+  for form in [[1, 0, 0, 0], [150, 0, 0, 0], [0, 0, 0, 1]] {
+    with(|a| a.table[..4].copy_from_slice(&form)).refuses(11);
+  }
+  with(|a| a.table[4] ^= 1).refuses(11); // one range more or less than there is room for
+  with(|a| a.table = vec![0, 0, 0, 0, 0, 0, 0, 0x80]).refuses(11); // 2^31 ranges
+  passes_11(NO_RANGES.to_vec());
+}
+
+#[test]
+fn table_11_by_its_ranges() {
+  let refused: [&[(u32, u32, u8)]; 14] = [
+    &[(0x41, 0x45, 4), (0x45, 0x50, 4)],                     // they overlap
+    &[(0x41, 0x41, 4), (0x41, 0x41, 4)],                     // the same twice
+    &[(0x50, 0x51, 4), (0x41, 0x42, 4)],                     // out of order
+    &[(0, 0, 4), (0, 1, 4)],                                 // 0 twice
+    &[(0x42, 0x41, 4)],                                      // it ends before it begins
+    &[(0xD800, 0xDFFF, 3)],                                  // no scalar values
+    &[(0xD7FF, 0xD800, 3)],                                  // the last is none
+    &[(0xDFFF, 0xE000, 3)],                                  // the first is none
+    &[(0x10FFFF, 0x110000, 3)],                              // the last is none
+    &[(0x110000, 0x110000, 3)],                              // neither is one
+    &[(0x41, 0x41, 14)],                                     // an unknown class
+    &[(0x41, 0x41, 16 + 15)],                                // another
+    &[(0x41, 0x41, 32)],                                     // a mark of 2
+    &[(0x41, 0x41, 4), (0x42, 0x42, 4), (0x43, 0x43, 0x80)], // a mark of 8, in the last
+  ];
+  for ranges in refused {
+    with(|a| a.table = table(ranges)).refuses(11);
+  }
+  passes_11(table(&[(0, 0, 13), (1, 0xD7FF, 16), (0xE000, 0x10FFFF, 0)])); // a pictograph of class Other, and Other itself
+  passes_11(table(&[(0xD7FF, 0xE000, 16 + 13)])); // both ends are scalar values
+}
+
+/// 65,528 bytes are the most that a table of nine bytes a range has below the limit.
+#[test]
+fn table_11_by_its_size() {
+  let ranges: Vec<_> = (0..7_281).map(|i| (2 * i, 2 * i, 4)).collect();
+  assert_eq!((table(&ranges[1..]).len(), table(&ranges).len()), (65_528, 65_537));
+  passes_11(table(&ranges[1..]));
+  with(|a| a.table = table(&ranges)).refuses(11);
+}
+
+/// A finish that is refused with 11 is answered with the same token once the table is in order.
+#[test]
+fn table_11_gives_the_token_back() {
+  let mut host = Host::new();
+  host.hold('1');
+  host.open(character('1')).unwrap();
+  let before = host.areas();
+  host.table = &UNICODE[1..];
+  assert_eq!(host.finish(None), Err(Refusal::Table));
+  assert_eq!(host.open(press('2')), Err(Refusal::Table));
+  assert!(before == host.areas());
+  host.table = NO_RANGES; // a text of one scalar value does not ask it
+  assert_eq!(host.finish(None), Ok(1));
+  assert_eq!(host.card(), "1");
+  assert!(host.session.is_fresh());
+  assert_eq!(Refusal::Table.to_string(), "refused 11: the break table is not in order");
+}
+
+/// The number is that of the first question that fails: 1, 2, 3, 11, 4, and then the others.
 #[test]
 fn the_first_that_fails() {
   with(|a| {
@@ -116,14 +207,24 @@ fn the_first_that_fails() {
   with(|a| {
     a.state.clear();
     a.block.clear();
+    a.table.clear();
     a.session[0] = 0;
   })
   .refuses(2);
   with(|a| {
     a.block.clear();
+    a.table.clear();
     a.session[0] = 0;
   })
   .refuses(3);
+  with(|a| {
+    a.table.clear();
+    a.session[0] = 0;
+  })
+  .refuses(11);
+  let mut areas = with(|a| a.table.clear());
+  assert_eq!(areas.finish(7), 11); // before 10
+  assert_eq!(areas.bring(Message::new(WM_DEADCHAR, 0x60, 0x0029_0001)).0, 11); // before 5
 }
 
 #[test]
@@ -216,7 +317,7 @@ fn not_latest_10() {
 #[test]
 fn not_latest_gives_the_token_back() {
   let (mut session, mut answers) = (Session::new(), Answers::new());
-  let keyboard = Keyboard { state: &[0; KEY_STATE_SIZE], block: US };
+  let keyboard = Keyboard { state: &[0; KEY_STATE_SIZE], block: US, table: UNICODE };
   let first = session.open(&mut answers, keyboard, press('1')).unwrap().token.unwrap();
   let second = session.open(&mut answers, keyboard, release('2')).unwrap().token.unwrap();
   let not = session.finish(&mut answers, keyboard, first, Peeked::Nothing).unwrap_err();
@@ -230,10 +331,10 @@ fn not_latest_gives_the_token_back() {
 
 #[test]
 fn numbers_of_refusals() {
-  for number in 1..=10 {
+  for number in 1..=11 {
     assert_eq!(Refusal::from_number(number).unwrap().number(), number);
   }
-  for number in [0, 11, u32::MAX] {
+  for number in [0, 12, u32::MAX] {
     assert_eq!(Refusal::from_number(number), None);
   }
 }

@@ -1,6 +1,6 @@
-//! The calls of crates/replay with tao's own answers: some thousands, on three layouts and more. oracle/README.md ('The calls of replay') lays the
-//! file out. Held to tao: the token, the message result, tokens handed out, whether a press is held, the number of entries, and every byte of
-//! the answer area; and each event as this crate reads it, to its bytes (docs/AREAS.md). The numbers of refused calls are those of
+//! The calls of crates/replay with tao's own answers: some thousands, on several layouts and break tables. oracle/README.md ('The calls of
+//! replay') lays the file out. Held to tao: the token, the message result, tokens handed out, whether a press is held, the number of entries, and
+//! every byte of the answer area; and each event as this crate reads it, to its bytes (docs/AREAS.md). The numbers of refused calls are those of
 //! docs/SCOPE.md, 6.
 mod common;
 use common::event_bytes;
@@ -19,7 +19,8 @@ impl Reader {
     self.take(1)[0]
   }
 
-  fn block(&mut self) -> &'static [u8] {
+  /// Bytes with their length before them.
+  fn counted(&mut self) -> &'static [u8] {
     let length = number(self.take(4));
     self.take(length as usize)
   }
@@ -85,6 +86,7 @@ struct Replay {
   answers: Vec<u8>,
   state: Vec<u8>,
   block: &'static [u8],
+  table: &'static [u8],
   /// The message result as the latest open left it.
   result: [u8; 9],
 }
@@ -106,6 +108,7 @@ impl Replay {
       &mut self.answers,
       &self.state,
       self.block,
+      self.table,
       r.u32_at(0),
       r.u64_at(4),
       r.u64_at(12),
@@ -123,6 +126,7 @@ impl Replay {
       &mut self.answers,
       &self.state,
       self.block,
+      self.table,
       r.u32_at(20),
       r.0[24].into(),
       r.u32_at(0),
@@ -166,9 +170,10 @@ fn tao_scripts() -> Vec<&'static str> {
 #[test]
 fn the_calls_of_replay() {
   let mut file = Reader(include_bytes!("../../../crates/replay/data/calls"));
-  let blocks: Vec<_> = (0..file.byte()).map(|_| file.block()).collect();
+  let blocks: Vec<_> = (0..file.byte()).map(|_| file.counted()).collect();
+  let tables: Vec<_> = (0..file.byte()).map(|_| file.counted()).collect();
   let (session, answers) = (vec![0; AREA_SIZE], vec![0; AREA_SIZE]);
-  let mut replay = Replay { session, answers, state: vec![], block: &[], result: [0; 9] };
+  let mut replay = Replay { session, answers, state: vec![], block: &[], table: &[], result: [0; 9] };
   let mut scripts = vec![];
   loop {
     match file.byte() {
@@ -179,6 +184,7 @@ fn the_calls_of_replay() {
       }
       2 => {
         replay.block = blocks[usize::from(file.byte())];
+        replay.table = tables[usize::from(file.byte())];
         replay.state = file.packed(KEY_STATE_SIZE);
       }
       kind => {

@@ -6,14 +6,15 @@ use crate::{
   library::{self, Lent, AREA},
   run::{Difference, Machine, Stopped},
   script::{lparam, message, state, up, Body, State, Step, Token},
+  tables::{Table, Tables},
 };
 use areas::{
-  event,
+  break_table, event,
   session::{self, EntryState, Held, Info, Session},
 };
-use kbtypes::{Call, ElementState, Event, Key, LayoutSpec, Native, Slot};
+use kbtypes::{BreakTable, Call, ElementState, Event, Key, LayoutSpec, Native, Slot};
 use std::sync::Arc;
-use tao_oracle::{lookups, run_script, stand_in};
+use tao_oracle::{lookups, run_script};
 
 /// Session areas that hold all that one can: none held, a held press with units, eight open messages of every kind with
 /// events that wait among them, as many entries as there can be.
@@ -84,7 +85,7 @@ fn event_of(info: &Info, state: ElementState) -> Event {
 }
 
 /// What a held press becomes: with its typed text at a last character without Control, without text at a dead character.
-fn completed(held: &Held, typed: bool) -> Event {
+fn completed(held: &Held, table: &BreakTable, typed: bool) -> Event {
   let mut e = event_of(&held.info, ElementState::Pressed);
   e.text_with_all_modifiers = text_of(&held.units);
   if typed {
@@ -92,7 +93,7 @@ fn completed(held: &Held, typed: bool) -> Event {
   }
   if held.mark {
     e.logical_key = match &e.text {
-      Some(t) if stand_in(t) > 1 => held.info.logical_key.clone(),
+      Some(t) if break_table::pieces(table, t) > 1 => held.info.logical_key.clone(),
       Some(t) => Key::Character(t.clone()),
       None => Key::Unidentified(Native::Windows(held.info.scancode)),
     };
@@ -108,21 +109,22 @@ fn pressed(maps: &Arc<LayoutSpec>, vkey: u16, scancode: u8, extended: bool, repe
     kbtypes::Body::Open { kind: 0x100, wparam: vkey.into(), lparam },
     kbtypes::Body::Finish { token: 0, peeked: None },
   ];
-  let calls = bodies.map(|body| Call { body, state: keys.clone(), layout: maps.clone() });
+  let call = |body| Call { body, state: keys.clone(), layout: maps.clone(), table: Default::default() };
+  let calls = bodies.map(call);
   let run = run_script(&[&calls[0], &calls[1]], &[Slot::DefaultProcedure; 2]);
   run.answers[1].as_ref().expect("an answer").events[0].clone()
 }
 
 /// The events that come out when all is closed, latest first, with nothing peeked and no key down, in their order, and
 /// the press that is still held.
-fn closed(s: &Session, maps: &Arc<LayoutSpec>) -> (Vec<Event>, Option<Held>) {
+fn closed(s: &Session, maps: &Arc<LayoutSpec>, table: &BreakTable) -> (Vec<Event>, Option<Held>) {
   let mut held = s.held.clone();
   let mut events = vec![];
   for entry in s.entries.iter().rev() {
     let event = match &entry.state {
       EntryState::Complete(e) => Some(e.clone()),
       EntryState::Release(info) => Some(event_of(info, ElementState::Released)),
-      EntryState::Character => held.take().map(|h| completed(&h, true)),
+      EntryState::Character => held.take().map(|h| completed(&h, table, true)),
       EntryState::Press { vkey, scancode, extended, repeat } => {
         held = None;
         Some(pressed(maps, *vkey, *scancode, *extended, *repeat))
@@ -139,22 +141,23 @@ struct Host {
   answers: Vec<u8>,
   keys: State,
   layout: Arc<Layout>,
+  table: Arc<Table>,
 }
 
 impl Host {
+  fn lent(&mut self) -> Lent<'_> {
+    let (session, answers) = (&mut self.session, &mut self.answers);
+    Lent { session, answers, state: &self.keys[..], block: &self.layout.block, table: &self.table.bytes }
+  }
   fn open(&mut self, kind: u32, wparam: u64) -> u32 {
-    let lent =
-      Lent { session: &mut self.session, answers: &mut self.answers, state: &self.keys[..], block: &self.layout.block };
-    library::open(lent, kind, wparam, 1).refused
+    library::open(self.lent(), kind, wparam, 1).refused
   }
   fn finish(&mut self, token: u32) -> u32 {
-    let lent =
-      Lent { session: &mut self.session, answers: &mut self.answers, state: &self.keys[..], block: &self.layout.block };
-    library::finish(lent, token, None).refused
+    library::finish(self.lent(), token, None).refused
   }
   /// Closes all; what came out is held against what the reading says.
   fn close(&mut self, s: &Session) -> Result<(), String> {
-    let (events, held) = closed(s, &self.layout.maps);
+    let (events, held) = closed(s, &self.layout.maps, &self.table.ranges);
     let mut handed_out = vec![];
     for entry in s.entries.iter().rev().filter(|e| e.is_open()) {
       if self.finish(entry.token.into()) != 0 {
@@ -170,7 +173,7 @@ impl Host {
         return Err("a dead character is refused although a press is held".into());
       }
       let got = event::decode_answers(&self.answers).ok_or("no answer area")?;
-      let want = [completed(&held, false)];
+      let want = [completed(&held, &self.table.ranges, false)];
       if got != want {
         return Err(format!("the held press becomes {got:?}, and the reading has {want:?}"));
       }
@@ -184,11 +187,12 @@ impl Host {
 
 pub fn run(m: &mut Machine) -> Result<Tried, Stopped> {
   let (mut tried, mut in_order) = (0, 0);
-  let l = Layouts::new();
+  let (l, tables) = (Layouts::new(), Tables::new());
   let all = sessions(m)?;
   for (name, area) in all {
     let layout = l.accent.clone();
-    let mut h = Host { session: area.clone(), answers: vec![0; AREA], keys: state(&[]), layout };
+    let table = tables.small.clone();
+    let mut h = Host { session: area.clone(), answers: vec![0; AREA], keys: state(&[]), layout, table };
     let mut now = area.clone();
     for at in 0..AREA {
       for byte in damaged(area[at]) {

@@ -1,16 +1,16 @@
 //! Calls that the questions refuse, or that look like it.
 use super::{Played, Player, OTHER_KINDS};
-use crate::script::{message, Body, Odd, Step, Token};
+use crate::script::{message, Body, Odd, Token};
 
 impl Player<'_> {
   fn odd(&mut self) -> Odd {
     let size = 65_536;
-    let block = self.layout.block.len();
+    let (block, table) = (self.layout.block.len(), self.table.bytes.len());
     let used = 109 + 199 * self.m.now().entries.len();
     let d = &mut self.d;
     let bit = 1_u8 << d.below(8);
     let by = if d.now(60) { bit } else { 1 + d.below(255) as u8 };
-    match d.below(20) {
+    match d.below(26) {
       0 => Odd::SessionLength(d.of(&[0, 1, size - 1, size + 1, size + 32])),
       1 => Odd::AnswersLength(d.of(&[0, 1, size - 1, size + 1, size + 32])),
       2 => Odd::StateLength(d.of(&[0, 1, 128, 255, 257, 512])),
@@ -19,6 +19,9 @@ impl Player<'_> {
       7..=9 => Odd::BlockByte(74 + d.below(2560), by),
       10..=12 => Odd::BlockByte(2634 + d.below((block - 2634).max(1)), by),
       13..=18 => Odd::SessionByte(d.below(used), by),
+      19 => Odd::TableLength(d.of(&[0, 1, 7, 8, 9, 16, 17, table - 1, table + 1, table + 9, size, size + 1])),
+      20 => Odd::TableByte(d.below(8), by),
+      21..=24 => Odd::TableByte(d.below(table), by),
       _ => Odd::SessionByte(d.below(size), by),
     }
   }
@@ -47,7 +50,7 @@ impl Player<'_> {
     let finish = self.m.now().latest().is_some() && self.d.now(50);
     let body =
       if finish { Body::Finish { token: Token::Latest, peeked: self.peeked() } } else { Body::Open(self.message()) };
-    let mut step = Step::new(&self.layout, &self.state, body);
+    let mut step = self.step(body);
     step.odd.push(self.odd());
     while self.d.now(20) {
       step.odd.push(self.odd());

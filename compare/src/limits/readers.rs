@@ -3,6 +3,7 @@ use crate::{
   layouts::Layouts,
   library::{self, AREA, FIELDS, NONE, TEXT_MOST},
   script::state,
+  tables::small,
 };
 
 /// The readers' answers to lengths and numbers out of range.
@@ -11,7 +12,8 @@ pub fn check() -> Result<(), String> {
   let mut session = vec![0; AREA];
   let mut answers = vec![0; AREA];
   let keys = state(&[(0x31, 0x80), (0x14, 0x80)]);
-  let lent = library::Lent { session: &mut session, answers: &mut answers, state: &keys[..], block: &l.accent.block };
+  let (block, table) = (&l.accent.block, &small().bytes);
+  let lent = library::Lent { session: &mut session, answers: &mut answers, state: &keys[..], block, table };
   let said = library::open(lent, 0x7, 0, 0);
   let expect = |what: &str, got: u32, want: u32| {
     if got == want {

@@ -1,9 +1,9 @@
 // Calls of open and finish to be timed, by tools/bench. The first argument says what, the second how many rounds.
 //
-//   e, u   a digit's six calls at an empty queue (press, character and release, an open and a finish each); e with the smallest block,
-//          of 2,634 zeros, u with us.block
+//   e, u   a digit's six calls at an empty queue (press, character and release, an open and a finish each); e with the smallest block and
+//          break table, of 2,634 and 8 zeros, u with us.block and unicode.breaks
 //   q, v   the same two on a queue of 254 entries: the digit's own two make it 256
-//   f, g   the floor of one call, with the two blocks: the session and the block read, the answers cleared
+//   f, g   the floor of one call, with the same: the session, the block and the table read, the answers cleared
 //
 // It prints how many calls passed and events were handed out, added up, and how many entries the queue is left with; of f and g how
 // many rounds read what they had written.
@@ -72,7 +72,14 @@ fn rounds_in(t: &[u8]) -> u64 {
 
 // ---- calls
 
-fn open(session: &mut [u8], answers: &mut [u8], state: &[u8], block: &[u8], m: Message) -> Said {
+fn open(
+    session: &mut [u8],
+    answers: &mut [u8],
+    state: &[u8],
+    block: &[u8],
+    table: &[u8],
+    m: Message,
+) -> Said {
     let lent = ProcResult::DefWindowProc;
     let kind = m.kind;
     let o = message::open(
@@ -80,6 +87,7 @@ fn open(session: &mut [u8], answers: &mut [u8], state: &[u8], block: &[u8], m: M
         answers,
         state,
         block,
+        table,
         kind,
         m.wparam,
         m.lparam,
@@ -94,11 +102,12 @@ fn finish(
     answers: &mut [u8],
     state: &[u8],
     block: &[u8],
+    table: &[u8],
     token: u32,
     peeked: Peeked,
 ) -> Said {
     let t = PendingMessageToken(token);
-    let a = message::finish(session, answers, state, block, t, peeked);
+    let a = message::finish(session, answers, state, block, table, t, peeked);
     show::said_by_finish(a)
 }
 
@@ -117,11 +126,12 @@ fn whole(
     answers: &mut [u8],
     state: &[u8],
     block: &[u8],
+    table: &[u8],
     m: Message,
     peeked: Peeked,
 ) -> u64 {
-    let opened = open(session, answers, state, block, m);
-    let finished = finish(session, answers, state, block, opened.number, peeked);
+    let opened = open(session, answers, state, block, table, m);
+    let finished = finish(session, answers, state, block, table, opened.number, peeked);
     counted(opened, finished, answers)
 }
 
@@ -131,10 +141,27 @@ fn digit(
     answers: &mut [u8; AREA_SIZE],
     state: &[u8; 256],
     block: &[u8],
+    table: &[u8],
 ) -> u64 {
-    let pressed = whole(session, answers, state, block, press(), coming());
-    let typed = whole(session, answers, state, block, character(), Peeked::Nothing);
-    let released = whole(session, answers, state, block, release(), Peeked::Nothing);
+    let pressed = whole(session, answers, state, block, table, press(), coming());
+    let typed = whole(
+        session,
+        answers,
+        state,
+        block,
+        table,
+        character(),
+        Peeked::Nothing,
+    );
+    let released = whole(
+        session,
+        answers,
+        state,
+        block,
+        table,
+        release(),
+        Peeked::Nothing,
+    );
     let both = std::num::wrapping_add_u64(pressed, typed);
     std::num::wrapping_add_u64(both, released)
 }
@@ -144,12 +171,13 @@ fn digits(
     answers: &mut [u8; AREA_SIZE],
     state: &[u8; 256],
     block: &[u8],
+    table: &[u8],
     rounds: u64,
 ) -> u64 {
     let mut count: u64 = 0;
     let mut i: u64 = 0;
     while i < rounds {
-        let one = digit(session, answers, state, block);
+        let one = digit(session, answers, state, block, table);
         count = std::num::wrapping_add_u64(count, one);
         i += 1;
     }
@@ -164,10 +192,19 @@ fn fill_queue(
     answers: &mut [u8; AREA_SIZE],
     state: &[u8; 256],
     block: &[u8],
+    table: &[u8],
 ) {
-    open(session, answers, state, block, press());
-    digits(session, answers, state, block, 126);
-    whole(session, answers, state, block, release(), Peeked::Nothing);
+    open(session, answers, state, block, table, press());
+    digits(session, answers, state, block, table, 126);
+    whole(
+        session,
+        answers,
+        state,
+        block,
+        table,
+        release(),
+        Peeked::Nothing,
+    );
 }
 
 // The queue of 254 entries as it was: what stands before the entries, and no entry behind the 254.
@@ -181,16 +218,17 @@ fn digits_behind(
     answers: &mut [u8; AREA_SIZE],
     state: &[u8; 256],
     block: &[u8],
+    table: &[u8],
     rounds: u64,
 ) -> u64 {
     let mut before = [0u8; ENTRIES_AT];
-    fill_queue(session, answers, state, block);
+    fill_queue(session, answers, state, block, table);
     area::span::copy_part(session, 0, &mut before, 0, ENTRIES_AT);
     let mut count: u64 = 0;
     let mut i: u64 = 0;
     while i < rounds {
         put_back(session, &before);
-        let one = digit(session, answers, state, block);
+        let one = digit(session, answers, state, block, table);
         count = std::num::wrapping_add_u64(count, one);
         i += 1;
     }
@@ -204,6 +242,7 @@ fn floor_one(
     session: &mut [u8; AREA_SIZE],
     answers: &mut [u8; AREA_SIZE],
     block: &mut [u8],
+    table: &mut [u8],
     i: u64,
 ) -> u64 {
     let at = (i % 65536) as usize;
@@ -211,10 +250,14 @@ fn floor_one(
     if block.len() == 0 {
         return 0;
     }
+    if table.len() == 0 {
+        return 0;
+    }
     session[at] = bit;
     block[0] = bit;
+    table[0] = bit;
     answers[at] = 1;
-    let read = area::scan::or_all(session) | area::scan::or_all(block);
+    let read = area::scan::or_all(session) | area::scan::or_all(block) | area::scan::or_all(table);
     area::span::fill_zero(answers, 0);
     if bit <= read && answers[at] == 0 {
         return 1;
@@ -226,12 +269,13 @@ fn floors(
     session: &mut [u8; AREA_SIZE],
     answers: &mut [u8; AREA_SIZE],
     block: &mut [u8],
+    table: &mut [u8],
     rounds: u64,
 ) -> u64 {
     let mut count: u64 = 0;
     let mut i: u64 = 0;
     while i < rounds {
-        let one = floor_one(session, answers, block, i);
+        let one = floor_one(session, answers, block, table, i);
         count = std::num::wrapping_add_u64(count, one);
         i += 1;
     }
@@ -246,15 +290,16 @@ fn counted_of(
     answers: &mut [u8; AREA_SIZE],
     state: &[u8; 256],
     block: &mut [u8],
+    table: &mut [u8],
     rounds: u64,
 ) -> u64 {
     if what == b'f' || what == b'g' {
-        return floors(session, answers, block, rounds);
+        return floors(session, answers, block, table, rounds);
     }
     if what == b'q' || what == b'v' {
-        return digits_behind(session, answers, state, block, rounds);
+        return digits_behind(session, answers, state, block, table, rounds);
     }
-    digits(session, answers, state, block, rounds)
+    digits(session, answers, state, block, table, rounds)
 }
 
 fn show_count(count: u64, session: &[u8; AREA_SIZE]) {
@@ -264,13 +309,33 @@ fn show_count(count: u64, session: &[u8; AREA_SIZE]) {
     text(b" entries\n");
 }
 
-fn run(what: u8, block: &mut [u8], rounds: u64) {
+fn run(what: u8, block: &mut [u8], table: &mut [u8], rounds: u64) {
     let mut session = io::large_buffer();
     let mut answers = io::large_buffer();
     let state = [0u8; 256];
     record::write::fresh(&mut session);
-    let count = counted_of(what, &mut session, &mut answers, &state, block, rounds);
+    let count = counted_of(
+        what,
+        &mut session,
+        &mut answers,
+        &state,
+        block,
+        table,
+        rounds,
+    );
     show_count(count, &session);
+}
+
+fn run_with_us(what: u8, block: &mut [u8], rounds: u64) {
+    let fd = os::open_read(b"unicode.breaks");
+    if fd < 0 {
+        os::fail(b"unicode.breaks");
+        return;
+    }
+    let mut space = io::large_buffer();
+    let n = io::read_full(fd, &mut space);
+    libc::close(fd);
+    run(what, block, &mut space[..n], rounds);
 }
 
 fn run_on_us(what: u8, rounds: u64) {
@@ -282,12 +347,13 @@ fn run_on_us(what: u8, rounds: u64) {
     let mut space = io::large_buffer();
     let n = io::read_full(fd, &mut space);
     libc::close(fd);
-    run(what, &mut space[..n], rounds);
+    run_with_us(what, &mut space[..n], rounds);
 }
 
 fn run_on_smallest(what: u8, rounds: u64) {
     let mut block = [0u8; HEAD];
-    run(what, &mut block, rounds);
+    let mut table = [0u8; 8];
+    run(what, &mut block, &mut table, rounds);
 }
 
 fn main() {

@@ -6,9 +6,10 @@ ghost use Prim.Native.Nat.{_+_, _≤_};
 ghost use lib.ListN.{length};
 ghost use Rattle.area.specs.Pick.{pick};
 ghost use Rattle.text.specs.Message.{charUnits};
+ghost use Rattle.segmentation.specs.Layout.{tableOf, tableOk};
 ghost use Rattle.keys.specs.Text.{toText};
 ghost use Rattle.lookup.specs.Block.{blockOk};
-ghost use Rattle.session.specs.Builder.{withUnits, lastText, charEvent};
+ghost use Rattle.session.specs.Builder.{withUnits, lastText, severalText, charEvent};
 ghost use Rattle.session.specs.Limits.{UNITS-MOST, TEXT-MOST, KEY-TEXT-MOST};
 ghost use Rattle.session.specs.Session.{fullKeyFits};
 ghost use Rattle.session.specs.Types.{asHeld, asText, asKey, asEvent, InfoLens, EventLens};
@@ -105,13 +106,27 @@ fn last_text(state: &[u8], block: &[u8], h: HeldPress) -> Text
     crate::key_event::typed_text(units, h.len)
 }
 
+// SCOPE 3.13: whether a text has several pieces, by the break table.
+fn several_text(table: &[u8], text: Text) -> bool
+    requires { ⌜ (tableOk (now table) ≡ true) × (text .len ≤ TEXT-MOST) ⌝ }
+    ensures { λ r. ⌜ r ≡ severalText (tableOf (now (table .entry))) (asText text) ⌝ }
+{
+    let n = text.len as usize;
+    if n == 0 {
+        return false;
+    }
+    let bytes = text.bytes;
+    segmentation::several_pieces(table, &bytes[0..n])
+}
+
 // What the last character message completes.
-pub fn char_event(state: &[u8], block: &[u8], h: HeldPress) -> KeyEvent
-    requires { ⌜ (blockOk (now block) ≡ true) × InfoLens (h .info) × (h .len ≤ UNITS-MOST) ⌝ }
-    ensures { λ r. ⌜ (asEvent r ≡ charEvent (keyboardAt (now (state .entry)) (now (block .entry))) (asHeld h)) × EventLens r ⌝ }
+pub fn char_event(state: &[u8], block: &[u8], table: &[u8], h: HeldPress) -> KeyEvent
+    requires { ⌜ (blockOk (now block) ≡ true) × (tableOk (now table) ≡ true) × InfoLens (h .info) × (h .len ≤ UNITS-MOST) ⌝ }
+    ensures { λ r. ⌜ (asEvent r ≡ charEvent (keyboardAt (now (state .entry)) (now (block .entry))) (tableOf (now (table .entry))) (asHeld h)) × EventLens r ⌝ }
 {
     let units = h.units;
     let text = last_text(state, block, h);
+    let several = several_text(table, text);
     let all = crate::key_event::typed_text(units, h.len);
-    crate::key_event::finalize(h, text, all)
+    crate::key_event::finalize(h, several, text, all)
 }

@@ -47,20 +47,18 @@ pub(crate) fn typed_text(units: [u16; UNITS_MOST], len: u8) -> Text
     Text { bytes, len: count }
 }
 
-// SCOPE 3.13: the logical key of a press whose typed text may become it.
-fn typed_key(layout: TextKey, scancode: u16, text: Text) -> TextKey
+// SCOPE 3.13: the logical key of a press whose typed text may become it, unless that has several pieces.
+fn typed_key(several: bool, layout: TextKey, scancode: u16, text: Text) -> TextKey
     requires { ⌜ (layout .text .len ≤ TEXT-MOST) × (text .len ≤ TEXT-MOST) ⌝ }
-    ensures { λ r. ⌜ (asKey r ≡ typedKey (asKey layout) scancode (asText text)) × (r .text .len ≤ TEXT-MOST) ⌝ }
+    ensures { λ r. ⌜ (asKey r ≡ typedKey several (asKey layout) scancode (asText text)) × (r .text .len ≤ TEXT-MOST) ⌝ }
 {
-    let n = text.len as usize;
-    if n == 0 {
+    if text.len == 0 {
         return TextKey {
             key: Key::Unidentified(NativeKeyCode::Windows(scancode)),
             text,
         };
     }
-    let bytes = text.bytes;
-    if text::pieces::several_pieces(&bytes[0..n]) {
+    if several {
         return layout;
     }
     TextKey {
@@ -70,15 +68,15 @@ fn typed_key(layout: TextKey, scancode: u16, text: Text) -> TextKey
 }
 
 // The logical key of a press with its text.
-fn logical_key(h: HeldPress, text: Text) -> TextKey
+fn logical_key(h: HeldPress, several: bool, text: Text) -> TextKey
     requires { ⌜ InfoLens (h .info) × (text .len ≤ TEXT-MOST) ⌝ }
-    ensures { λ r. ⌜ (asKey r ≡ finalize (asHeld h) (asText text) none .logicalKey) × (r .text .len ≤ TEXT-MOST) ⌝ }
+    ensures { λ r. ⌜ (asKey r ≡ finalize (asHeld h) several (asText text) none .logicalKey) × (r .text .len ≤ TEXT-MOST) ⌝ }
 {
     let info = h.info;
     let layout = info.logical_key;
     let mark = h.mark;
     if mark {
-        return typed_key(layout, info.scancode, text);
+        return typed_key(several, layout, info.scancode, text);
     }
     layout
 }
@@ -111,14 +109,14 @@ fn event_of(
     }
 }
 
-// The event of a press, with its text and the text with all modifiers.
-pub(crate) fn finalize(h: HeldPress, text: Text, all: Text) -> KeyEvent
+// The event of a press, with its text, whether that has several pieces, and the text with all modifiers.
+pub(crate) fn finalize(h: HeldPress, several: bool, text: Text, all: Text) -> KeyEvent
     requires { ⌜ InfoLens (h .info) × (text .len ≤ TEXT-MOST) × (all .len ≤ TEXT-MOST) ⌝ }
-    ensures { λ r. ⌜ (asEvent r ≡ finalize (asHeld h) (asText text) (asText all)) × EventLens r ⌝ }
+    ensures { λ r. ⌜ (asEvent r ≡ finalize (asHeld h) several (asText text) (asText all)) × EventLens r ⌝ }
 {
     let info = h.info;
     let code = lookup::keycode::keycode_from_scancode(info.scancode);
-    let key = logical_key(h, text);
+    let key = logical_key(h, several, text);
     event_of(info, code, key, ElementState::Pressed, text, all)
 }
 
@@ -128,7 +126,7 @@ pub fn press_event(h: HeldPress) -> KeyEvent
     ensures { λ r. ⌜ (asEvent r ≡ pressEvent (asHeld h)) × EventLens r ⌝ }
 {
     let none = no_text();
-    finalize(h, none, none)
+    finalize(h, false, none, none)
 }
 
 // What a dead character message completes.
@@ -139,7 +137,7 @@ pub fn dead_char_event(h: HeldPress) -> KeyEvent
     let units = h.units;
     let none = no_text();
     let typed = typed_text(units, h.len);
-    finalize(h, none, typed)
+    finalize(h, false, none, typed)
 }
 
 // The event of a release, which has no texts.

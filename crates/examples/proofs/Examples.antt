@@ -11,8 +11,12 @@ use lib.ListN.{length, getD}
 use borrow.Author.Tests.{eqb-true, leb-true}
 use Rattle.area.specs.Look.{assoc}
 use Rattle.text.specs.Unicode.{scalar, encodeWith, utf16Of, utf8Of, unitStep, utf16Step, table3-7, leadIn, byLead, utf8Step, readFrom, wellFormed, scalarsIn, textOf}
-use Rattle.text.specs.Pieces.{marks, alone, several, severalIn}
 use Rattle.text.specs.Message.{charUnits}
+use Rattle.area.specs.Bytes.{num}
+use Rattle.area.specs.Walk.{every}
+use Rattle.segmentation.specs.Rules.{pictograph, joiner, indicators, breakAt, breaksAfter, pieces}
+use Rattle.segmentation.specs.Table.{propsIn, propsOf, piecesOf, severalIn}
+use Rattle.segmentation.specs.Layout.{firstAt, lastAt, kindAt, segment, tableOf, lastBefore, afterLast, endsAt, knownAt, rangeOk, rangesOk, tableOk}
 use Rattle.keys.specs.Key.{namedOk, keyNumber, keyFits, noneHeld}
 use Rattle.keys.specs.Text.{bareOf, textIn, toText}
 use Rattle.keys.specs.Native.{nativeKind, nativeValue, nativeFits, nativeOk}
@@ -27,10 +31,10 @@ use Rattle.lookup.proofs.block.MapsBack.{block-most, maps-back}
 use Rattle.lookup.specs.Layout.{nonCharKey, getKey, scanCodeFor, messageScancode, vkeyFor}
 use Rattle.lookup.specs.Location.{places, vkeyPlace, locationIn, extendedCode, locationOf}
 use Rattle.session.specs.Session.{Session, freshSession, openCount, rising, firstOpen, unitsWithin, inOrder, textFits, optTextFits, fullKeyFits, eventFits, infoFits, heldFits, waitFits, entryFits, entriesFit, isSession}
-use Rattle.session.specs.Builder.{Keyboard, keyboardOf, layoutKey, plainKey, codeAsKey, forcedKey, undead, fromMessage, isCharacter, markOf, heldOf, withUnits, typedText, typedKey, finalize, pressEvent, deadCharEvent, controlCounts, lastText, charEvent, releaseEvent, isControl, fake}
+use Rattle.session.specs.Builder.{Keyboard, keyboardOf, breakTableOf, layoutKey, plainKey, codeAsKey, forcedKey, undead, fromMessage, isCharacter, markOf, heldOf, withUnits, typedText, typedKey, finalize, pressEvent, deadCharEvent, controlCounts, lastText, severalText, charEvent, releaseEvent, isControl, fake}
 use Rattle.session.specs.Focus.{modifierKeys, isOther, othersFrom, focusKeys, focusKey, focusText, syntheticEvent, written, syntheticEvents, focusEvents}
 use Rattle.session.specs.Calls.{Effect, sortOf, opening, numbered, behind, charOpened, deadCharAnswered, messageEffect, holds, moreComing, finishEvent, finishHeld, findWait, inPlace, resolve, isFirst, drain, resolved, finishEffect, effectOf}
-use Rattle.session.specs.Questions.{opens, newEntries, unitsAfter, lastToken, question5, question6, question7, question8, question9, question10, firstNo, messageQuestions, finishQuestions, sessionQuestions}
+use Rattle.session.specs.Questions.{opens, newEntries, unitsAfter, lastToken, question11, question5, question6, question7, question8, question9, question10, firstNo, messageQuestions, finishQuestions, sessionQuestions}
 use Rattle.session.specs.Answers.{resultBy}
 use Rattle.session.specs.Limits.{KEYS}
 use Rattle.examples.specs.Examples.{Step, bring, finish, Answer, Example, keyboardIn, Brought, AllBrought, refusal, effect, result, answerBy, afterBy, answersBy, expectedIn, AllHold}
@@ -73,7 +77,7 @@ can-bring b e =
       codes = t 9;
     } in
     let p = maps-back m ok (omega (arith, block-most m ok, leb-true (itemBytes (listsIn m)) 4096 (t 10))) in
-    (t 11, p .0, ap (λ (l : Maps). record { layout = l; keyState = b .keyState }) (p .1))
+    (t 11, p .0, λ r. ap (λ (l : Maps). record { layout = l; keyState = b .keyState }) (p .1))
 
 abbrev boardsPass : List (Step × Answer) → Bool
 boardsPass [] = true
@@ -88,22 +92,22 @@ all-brought (c ∷ cs) e =
 -- ---- on such a keyboard the calls' definitions are those of the keyboard's record, so that they compute
 
 abbrev refusalOn : Session → Step → Option ℕ
-refusalOn s (bring b m) = firstNo (messageQuestions s b m (sortOf m))
-refusalOn s (finish b t p) = firstNo (finishQuestions s t)
+refusalOn s (bring b r m) = firstNo ((11, tableOk r) ∷ messageQuestions s b m (sortOf m))
+refusalOn s (finish b r t p) = firstNo ((11, tableOk r) ∷ finishQuestions s t)
 
 abbrev effectOn : Session → Step → Effect
-effectOn s (bring b m) = messageEffect s b m (sortOf m)
-effectOn s (finish b t p) = finishEffect s b t p (findWait t (s .entries))
+effectOn s (bring b r m) = messageEffect s b m (sortOf m)
+effectOn s (finish b r t p) = finishEffect s b (tableOf r) t p (findWait t (s .entries))
 
 same-refusal : (s : Session) (x : Step) → Brought (keyboardIn x) → refusal s x ≡ refusalOn s x
-unfolding sessionQuestions
-same-refusal s (bring b m) h = ap (λ (k : Keyboard). firstNo (messageQuestions s k m (sortOf m))) (h .2)
-same-refusal s (finish b t p) h = refl
+unfolding sessionQuestions question11
+same-refusal s (bring b r m) h = ap (λ (k : Keyboard). firstNo ((11, tableOk r) ∷ messageQuestions s k m (sortOf m))) (h .2 r)
+same-refusal s (finish b r t p) h = refl
 
 same-effect : (s : Session) (x : Step) → Brought (keyboardIn x) → effect s x ≡ effectOn s x
-unfolding effectOf
-same-effect s (bring b m) h = ap (λ (k : Keyboard). messageEffect s k m (sortOf m)) (h .2)
-same-effect s (finish b t p) h = ap (λ (k : Keyboard). finishEffect s k t p (findWait t (s .entries))) (h .2)
+unfolding effectOf breakTableOf
+same-effect s (bring b r m) h = ap (λ (k : Keyboard). messageEffect s k m (sortOf m)) (h .2 r)
+same-effect s (finish b r t p) h = ap (λ (k : Keyboard). finishEffect s k (tableOf r) t p (findWait t (s .entries))) (h .2 r)
 
 same-answers :
     (cs : List (Step × Answer)) (s : Session) → AllBrought cs → answersBy refusal effect s cs ≡ answersBy refusalOn effectOn s cs
@@ -132,7 +136,7 @@ allPass [] = true
 allPass (x ∷ xs) = boardsPass (x .calls) && allPass xs
 
 answers-computed : answersOn examples ≡ expectedOf examples
-unfolding assoc scalar encodeWith utf16Of utf8Of unitStep utf16Step table3-7 leadIn byLead utf8Step readFrom wellFormed scalarsIn textOf marks alone several severalIn charUnits toText nativeKind nativeValue codeNumber codeNative codeKey scanCodes keyCodeOf keyLParam exScancode exScancodeOf virtualKey down toggled anyDown numLockOn capsLockOn activeModifiers removeOnlyCtrl bitsOf find findCode listFor nonCharKey getKey scanCodeFor messageScancode vkeyFor places vkeyPlace locationIn extendedCode locationOf freshSession openCount layoutKey plainKey codeAsKey forcedKey undead fromMessage isCharacter markOf heldOf withUnits typedText typedKey finalize pressEvent deadCharEvent controlCounts lastText charEvent releaseEvent isControl fake modifierKeys isOther othersFrom focusKeys focusKey focusText syntheticEvent written syntheticEvents focusEvents sortOf opening numbered behind charOpened deadCharAnswered messageEffect holds moreComing finishEvent finishHeld findWait inPlace resolve isFirst drain resolved finishEffect opens newEntries unitsAfter lastToken question5 question6 question7 question8 question9 question10 firstNo messageQuestions finishQuestions resultBy
+unfolding assoc scalar encodeWith utf16Of utf8Of unitStep utf16Step table3-7 leadIn byLead utf8Step readFrom wellFormed scalarsIn textOf num every pictograph joiner indicators breakAt breaksAfter pieces propsIn propsOf piecesOf severalIn firstAt lastAt kindAt segment tableOf lastBefore afterLast endsAt knownAt rangeOk rangesOk tableOk charUnits toText nativeKind nativeValue codeNumber codeNative codeKey scanCodes keyCodeOf keyLParam exScancode exScancodeOf virtualKey down toggled anyDown numLockOn capsLockOn activeModifiers removeOnlyCtrl bitsOf find findCode listFor nonCharKey getKey scanCodeFor messageScancode vkeyFor places vkeyPlace locationIn extendedCode locationOf freshSession openCount layoutKey plainKey codeAsKey forcedKey undead fromMessage isCharacter markOf heldOf withUnits typedText typedKey finalize pressEvent deadCharEvent controlCounts lastText severalText charEvent releaseEvent isControl fake modifierKeys isOther othersFrom focusKeys focusKey focusText syntheticEvent written syntheticEvents focusEvents sortOf opening numbered behind charOpened deadCharAnswered messageEffect holds moreComing finishEvent finishHeld findWait inPlace resolve isFirst drain resolved finishEffect opens newEntries unitsAfter lastToken question5 question6 question7 question8 question9 question10 firstNo messageQuestions finishQuestions resultBy
 answers-computed = refl
 
 starts-computed : startsPass examples ≡ true

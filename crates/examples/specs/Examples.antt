@@ -1,5 +1,5 @@
--- Worked examples: calls, one after the other, and what each must answer. Sessions and keyboards are written as records; a call brings the
--- block that stands for its keyboard.
+-- Worked examples: calls, one after the other, and what each must answer. Sessions and keyboards are written as records, break tables as
+-- their bytes; a call brings the block that stands for its keyboard.
 -- Assumes nothing.
 use mathlib.Core.Path.{_≡_}
 use Prim.Native.Nat.{ℕ, zero, suc, _+_, _-_}
@@ -20,16 +20,16 @@ use Rattle.session.specs.Event.{Event}
 use Rattle.session.specs.Session.{Session, isSession}
 use Rattle.session.specs.Builder.{Keyboard, keyboardOf}
 use Rattle.session.specs.Calls.{Effect, sortOf, effectOf}
-use Rattle.session.specs.Questions.{firstNo, sessionQuestions}
+use Rattle.session.specs.Questions.{question11, firstNo, sessionQuestions}
 use Rattle.session.specs.Answers.{resultBy}
 use Rattle.session.specs.declared.ElementState.{ElementState}
 use Rattle.session.specs.declared.ProcResult.{ProcResult}
 use Rattle.session.specs.declared.ProcResult.the-variants.{Value}
 
--- a call that brings a message, or that finishes a token with what was peeked
+-- a call that brings a message, or that finishes a token with what was peeked, each with its keyboard and break table
 pub data Step : Type 0 where
-  bring : Keyboard → Message → Step
-  finish : Keyboard → ℕ → Option Message → Step
+  bring : Keyboard → List ℕ → Message → Step
+  finish : Keyboard → List ℕ → ℕ → Option Message → Step
 
 -- the number of a refusal; or the token of the message that was opened, if any, what `result` is then, and the events handed out
 pub data Answer : Type 0 where
@@ -43,30 +43,30 @@ pub record Example : Type 0 where
 
 -- ---- the calls: each keyboard as the block and the key state that stand for it
 
-abbrev pub inputsFor : Keyboard → Inputs
-inputsFor b = record { keyState = b .keyState; block = blockOf (b .layout) }
+abbrev pub inputsFor : Keyboard → List ℕ → Inputs
+inputsFor b r = record { keyState = b .keyState; block = blockOf (b .layout); table = r }
 
 abbrev pub given : Step → Given
-given (bring b m) = brought (inputsFor b) m
-given (finish b t p) = finished (inputsFor b) t p
+given (bring b r m) = brought (inputsFor b r) m
+given (finish b r t p) = finished (inputsFor b r) t p
 
 abbrev pub keyboardIn : Step → Keyboard
-keyboardIn (bring b m) = b
-keyboardIn (finish b t p) = b
+keyboardIn (bring b r m) = b
+keyboardIn (finish b r t p) = b
 
--- the inputs pass questions 2 and 3, and stand for the keyboard
+-- whatever the break table, the inputs pass questions 2 and 3, and stand for the keyboard
 abbrev pub Brought : Keyboard → Type 0
 Brought b =
-    (eqb (length (b .keyState)) KEYS ≡ true) × (blockOk (inputsFor b .block) ≡ true) × (keyboardOf (inputsFor b) ≡ b)
+    (eqb (length (b .keyState)) KEYS ≡ true) × (blockOk (blockOf (b .layout)) ≡ true) × ((r : List ℕ) → keyboardOf (inputsFor b r) ≡ b)
 
 abbrev pub AllBrought : List (Step × Answer) → Type 0
 AllBrought [] = Unit {0}
 AllBrought (c ∷ cs) = Brought (keyboardIn (c .0)) × AllBrought cs
 
--- ---- the run: the questions 5 to 10, the effects and `result` are those of the calls' own definitions (Questions.antt, Calls.antt, Answers.antt)
+-- ---- the run: the questions 11 and 5 to 10, the effects and `result` are those of the calls' own definitions (Questions.antt, Calls.antt, Answers.antt)
 
 abbrev pub refusal : Session → Step → Option ℕ
-refusal s x = firstNo (sessionQuestions s (given x))
+refusal s x = firstNo ((11, question11 (given x)) ∷ sessionQuestions s (given x))
 
 abbrev pub effect : Session → Step → Effect
 effect s x = effectOf s (given x)
@@ -76,8 +76,8 @@ abbrev pub lent : ProcResult
 lent = Value (pos 7)
 
 abbrev pub result : Session → Step → ProcResult
-result s (bring b m) = resultBy (sortOf m) s m lent
-result s (finish b t p) = lent
+result s (bring b r m) = resultBy (sortOf m) s m lent
+result s (finish b r t p) = lent
 
 abbrev pub answerBy : Option ℕ → ProcResult → Effect → Answer
 answerBy none r f = answered (f .token) r (f .events)

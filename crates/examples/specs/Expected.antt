@@ -1,5 +1,5 @@
 -- Worked examples with tao 0.37.2's own answers, written by oracle/expected (oracle/README.md, not to be edited). Tokens are counted from
--- tao's last empty queue. Calls that SCOPE 6 refuses were not given to tao: it panics there (5) or has no such limit or test (6 to 10).
+-- tao's last empty queue. Calls that SCOPE 6 refuses were not given to tao: it panics there (5) or has no such limit or test (6 to 11).
 -- Assumes nothing.
 use Prim.Native.Nat.{ℕ}
 use mathlib.Core.Bool.{true, false}
@@ -137,6 +137,42 @@ moved-layout =
 abbrev pub moved : Keyboard
 moved = record { layout = moved-layout; keyState = cells 256 [] }
 
+-- ---- break tables, as their bytes (docs/AREAS.md)
+
+-- most calls bring this one: LF and CR, 0300 to 036F, 094D and 1F3FB to 1F3FF (Extend), 0600 to 0605 (Prepend), 0903 (SpacingMark),
+-- the parts of Hangul syllables (L, V, T) and AC00 (LV), 200D (ZWJ), 1F1E6 to 1F1FF (regional indicators), 1F466 to 1F469 (pictographs)
+abbrev pub table : List ℕ
+table =
+    0x00 ∷ 0x00 ∷ 0x00 ∷ 0x00 ∷ 0x0E ∷ 0x00 ∷ 0x00 ∷ 0x00 ∷ 0x0A ∷ 0x00 ∷ 0x00 ∷ 0x00 ∷ 0x0D ∷ 0x00 ∷ 0x00 ∷ 0x00 ∷
+    0x00 ∷ 0x03 ∷ 0x00 ∷ 0x00 ∷ 0x00 ∷ 0x06 ∷ 0x00 ∷ 0x00 ∷ 0x03 ∷ 0x09 ∷ 0x00 ∷ 0x00 ∷ 0x4D ∷ 0x09 ∷ 0x00 ∷ 0x00 ∷
+    0x00 ∷ 0x11 ∷ 0x00 ∷ 0x00 ∷ 0x60 ∷ 0x11 ∷ 0x00 ∷ 0x00 ∷ 0xA8 ∷ 0x11 ∷ 0x00 ∷ 0x00 ∷ 0x0D ∷ 0x20 ∷ 0x00 ∷ 0x00 ∷
+    0x00 ∷ 0xAC ∷ 0x00 ∷ 0x00 ∷ 0xE6 ∷ 0xF1 ∷ 0x01 ∷ 0x00 ∷ 0xFB ∷ 0xF3 ∷ 0x01 ∷ 0x00 ∷ 0x66 ∷ 0xF4 ∷ 0x01 ∷ 0x00 ∷
+    0x0A ∷ 0x00 ∷ 0x00 ∷ 0x00 ∷ 0x0D ∷ 0x00 ∷ 0x00 ∷ 0x00 ∷ 0x6F ∷ 0x03 ∷ 0x00 ∷ 0x00 ∷ 0x05 ∷ 0x06 ∷ 0x00 ∷ 0x00 ∷
+    0x03 ∷ 0x09 ∷ 0x00 ∷ 0x00 ∷ 0x4D ∷ 0x09 ∷ 0x00 ∷ 0x00 ∷ 0x5F ∷ 0x11 ∷ 0x00 ∷ 0x00 ∷ 0xA7 ∷ 0x11 ∷ 0x00 ∷ 0x00 ∷
+    0xFF ∷ 0x11 ∷ 0x00 ∷ 0x00 ∷ 0x0D ∷ 0x20 ∷ 0x00 ∷ 0x00 ∷ 0x00 ∷ 0xAC ∷ 0x00 ∷ 0x00 ∷ 0xFF ∷ 0xF1 ∷ 0x01 ∷ 0x00 ∷
+    0xFF ∷ 0xF3 ∷ 0x01 ∷ 0x00 ∷ 0x69 ∷ 0xF4 ∷ 0x01 ∷ 0x00 ∷ 0x02 ∷ 0x01 ∷ 0x04 ∷ 0x07 ∷ 0x08 ∷ 0x04 ∷ 0x09 ∷ 0x0A ∷
+    0x0B ∷ 0x05 ∷ 0x0C ∷ 0x06 ∷ 0x04 ∷ 0x10 ∷ []
+
+-- no ranges: every scalar value has class Other
+abbrev pub no-ranges : List ℕ
+no-ranges = 0x00 ∷ 0x00 ∷ 0x00 ∷ 0x00 ∷ 0x00 ∷ 0x00 ∷ 0x00 ∷ 0x00 ∷ []
+
+-- no bytes at all, so no table
+abbrev pub no-bytes : List ℕ
+no-bytes = []
+
+-- no table: both ranges have 0D
+abbrev pub touching : List ℕ
+touching =
+    0x00 ∷ 0x00 ∷ 0x00 ∷ 0x00 ∷ 0x02 ∷ 0x00 ∷ 0x00 ∷ 0x00 ∷ 0x0A ∷ 0x00 ∷ 0x00 ∷ 0x00 ∷ 0x0D ∷ 0x00 ∷ 0x00 ∷ 0x00 ∷
+    0x0D ∷ 0x00 ∷ 0x00 ∷ 0x00 ∷ 0x0D ∷ 0x00 ∷ 0x00 ∷ 0x00 ∷ 0x02 ∷ 0x01 ∷ []
+
+-- no table: there is no such class
+abbrev pub class-14 : List ℕ
+class-14 =
+    0x00 ∷ 0x00 ∷ 0x00 ∷ 0x00 ∷ 0x01 ∷ 0x00 ∷ 0x00 ∷ 0x00 ∷ 0x0D ∷ 0x00 ∷ 0x00 ∷ 0x00 ∷ 0x0D ∷ 0x00 ∷ 0x00 ∷ 0x00 ∷
+    0x0E ∷ []
+
 -- ---- the examples
 
 -- a digit from the scanner: press, character, release
@@ -145,12 +181,12 @@ digit =
     record {
       start = freshSession;
       calls =
-          (bring us (message 0x100 0x31 0x20001), answered (some 0) (Value zeroResult) []) ∷
-          (finish us 0 (some (message 0x102 0x31 0x20001)), answered none lent []) ∷
-          (bring us (message 0x102 0x31 0x20001), answered (some 0) (Value zeroResult) []) ∷
-          (finish us 0 none, answered none lent (keyEvent code.Digit1 (character (0x31 ∷ [])) (some (0x31 ∷ [])) at.Standard Pressed false false (some (0x31 ∷ [])) (character (0x31 ∷ [])) ∷ [])) ∷
-          (bring us (message 0x101 0x31 0xC0020001), answered (some 0) (Value zeroResult) []) ∷
-          (finish us 0 none, answered none lent (keyEvent code.Digit1 (character (0x31 ∷ [])) none at.Standard Released false false none (character (0x31 ∷ [])) ∷ [])) ∷
+          (bring us table (message 0x100 0x31 0x20001), answered (some 0) (Value zeroResult) []) ∷
+          (finish us table 0 (some (message 0x102 0x31 0x20001)), answered none lent []) ∷
+          (bring us table (message 0x102 0x31 0x20001), answered (some 0) (Value zeroResult) []) ∷
+          (finish us table 0 none, answered none lent (keyEvent code.Digit1 (character (0x31 ∷ [])) (some (0x31 ∷ [])) at.Standard Pressed false false (some (0x31 ∷ [])) (character (0x31 ∷ [])) ∷ [])) ∷
+          (bring us table (message 0x101 0x31 0xC0020001), answered (some 0) (Value zeroResult) []) ∷
+          (finish us table 0 none, answered none lent (keyEvent code.Digit1 (character (0x31 ∷ [])) none at.Standard Released false false none (character (0x31 ∷ [])) ∷ [])) ∷
           [];
     }
 
@@ -160,12 +196,12 @@ surrogate-pair =
     record {
       start = freshSession;
       calls =
-          (bring us (message 0x100 0x31 0x20001), answered (some 0) (Value zeroResult) []) ∷
-          (finish us 0 (some (message 0x102 0x31 0x20001)), answered none lent []) ∷
-          (bring us (message 0x102 0xD83D 0x20001), answered (some 0) (Value zeroResult) []) ∷
-          (finish us 0 (some (message 0x102 0x31 0x20001)), answered none lent []) ∷
-          (bring us (message 0x102 0xDE00 0x20001), answered (some 0) (Value zeroResult) []) ∷
-          (finish us 0 none, answered none lent (keyEvent code.Digit1 (character (0xF0 ∷ 0x9F ∷ 0x98 ∷ 0x80 ∷ [])) (some (0xF0 ∷ 0x9F ∷ 0x98 ∷ 0x80 ∷ [])) at.Standard Pressed false false (some (0xF0 ∷ 0x9F ∷ 0x98 ∷ 0x80 ∷ [])) (character (0x31 ∷ [])) ∷ [])) ∷
+          (bring us table (message 0x100 0x31 0x20001), answered (some 0) (Value zeroResult) []) ∷
+          (finish us table 0 (some (message 0x102 0x31 0x20001)), answered none lent []) ∷
+          (bring us table (message 0x102 0xD83D 0x20001), answered (some 0) (Value zeroResult) []) ∷
+          (finish us table 0 (some (message 0x102 0x31 0x20001)), answered none lent []) ∷
+          (bring us table (message 0x102 0xDE00 0x20001), answered (some 0) (Value zeroResult) []) ∷
+          (finish us table 0 none, answered none lent (keyEvent code.Digit1 (character (0xF0 ∷ 0x9F ∷ 0x98 ∷ 0x80 ∷ [])) (some (0xF0 ∷ 0x9F ∷ 0x98 ∷ 0x80 ∷ [])) at.Standard Pressed false false (some (0xF0 ∷ 0x9F ∷ 0x98 ∷ 0x80 ∷ [])) (character (0x31 ∷ [])) ∷ [])) ∷
           [];
     }
 
@@ -175,15 +211,15 @@ dead-key-and-letter =
     record {
       start = freshSession;
       calls =
-          (bring german (message 0x100 0xDD 0xD0001), answered (some 0) (Value zeroResult) []) ∷
-          (finish german 0 (some (message 0x103 0xB4 0xD0001)), answered none lent []) ∷
-          (bring german (message 0x103 0xB4 0xD0001), answered none (Value zeroResult) (keyEvent code.Equal (deadChar 0xB4) none at.Standard Pressed false false none (character (0xC2 ∷ 0xB4 ∷ [])) ∷ [])) ∷
-          (bring german (message 0x101 0xDD 0xC00D0001), answered (some 0) (Value zeroResult) []) ∷
-          (finish german 0 none, answered none lent (keyEvent code.Equal (deadChar 0xB4) none at.Standard Released false false none (character (0xC2 ∷ 0xB4 ∷ [])) ∷ [])) ∷
-          (bring german (message 0x100 0x45 0x120001), answered (some 0) (Value zeroResult) []) ∷
-          (finish german 0 (some (message 0x102 0x31 0x20001)), answered none lent []) ∷
-          (bring german (message 0x102 0xE9 0x20001), answered (some 0) (Value zeroResult) []) ∷
-          (finish german 0 none, answered none lent (keyEvent code.KeyE (character (0xC3 ∷ 0xA9 ∷ [])) (some (0xC3 ∷ 0xA9 ∷ [])) at.Standard Pressed false false (some (0xC3 ∷ 0xA9 ∷ [])) (character (0x65 ∷ [])) ∷ [])) ∷
+          (bring german table (message 0x100 0xDD 0xD0001), answered (some 0) (Value zeroResult) []) ∷
+          (finish german table 0 (some (message 0x103 0xB4 0xD0001)), answered none lent []) ∷
+          (bring german table (message 0x103 0xB4 0xD0001), answered none (Value zeroResult) (keyEvent code.Equal (deadChar 0xB4) none at.Standard Pressed false false none (character (0xC2 ∷ 0xB4 ∷ [])) ∷ [])) ∷
+          (bring german table (message 0x101 0xDD 0xC00D0001), answered (some 0) (Value zeroResult) []) ∷
+          (finish german table 0 none, answered none lent (keyEvent code.Equal (deadChar 0xB4) none at.Standard Released false false none (character (0xC2 ∷ 0xB4 ∷ [])) ∷ [])) ∷
+          (bring german table (message 0x100 0x45 0x120001), answered (some 0) (Value zeroResult) []) ∷
+          (finish german table 0 (some (message 0x102 0x31 0x20001)), answered none lent []) ∷
+          (bring german table (message 0x102 0xE9 0x20001), answered (some 0) (Value zeroResult) []) ∷
+          (finish german table 0 none, answered none lent (keyEvent code.KeyE (character (0xC3 ∷ 0xA9 ∷ [])) (some (0xC3 ∷ 0xA9 ∷ [])) at.Standard Pressed false false (some (0xC3 ∷ 0xA9 ∷ [])) (character (0x65 ∷ [])) ∷ [])) ∷
           [];
     }
 
@@ -193,14 +229,14 @@ alt-gr =
     record {
       start = freshSession;
       calls =
-          (bring german-alt-gr (message 0x100 0x11 0x1D0001), answered (some 0) (Value zeroResult) []) ∷
-          (finish german-alt-gr 0 (some (message 0x100 0x12 0x1380001)), answered none lent []) ∷
-          (bring german-alt-gr (message 0x100 0x12 0x1380001), answered (some 0) (Value zeroResult) []) ∷
-          (finish german-alt-gr 0 none, answered none lent (keyEvent code.AltRight (named key-AltGraph) none at.Right Pressed false false none (named key-AltGraph) ∷ [])) ∷
-          (bring german-alt-gr (message 0x105 0x11 0xE01D0001), answered (some 0) (Value zeroResult) []) ∷
-          (finish german-alt-gr 0 (some (message 0x101 0x12 0xC1380001)), answered none lent []) ∷
-          (bring german (message 0x101 0x12 0xC1380001), answered (some 0) (Value zeroResult) []) ∷
-          (finish german 0 none, answered none lent (keyEvent code.AltRight (named key-AltGraph) none at.Right Released false false none (named key-AltGraph) ∷ [])) ∷
+          (bring german-alt-gr table (message 0x100 0x11 0x1D0001), answered (some 0) (Value zeroResult) []) ∷
+          (finish german-alt-gr table 0 (some (message 0x100 0x12 0x1380001)), answered none lent []) ∷
+          (bring german-alt-gr table (message 0x100 0x12 0x1380001), answered (some 0) (Value zeroResult) []) ∷
+          (finish german-alt-gr table 0 none, answered none lent (keyEvent code.AltRight (named key-AltGraph) none at.Right Pressed false false none (named key-AltGraph) ∷ [])) ∷
+          (bring german-alt-gr table (message 0x105 0x11 0xE01D0001), answered (some 0) (Value zeroResult) []) ∷
+          (finish german-alt-gr table 0 (some (message 0x101 0x12 0xC1380001)), answered none lent []) ∷
+          (bring german table (message 0x101 0x12 0xC1380001), answered (some 0) (Value zeroResult) []) ∷
+          (finish german table 0 none, answered none lent (keyEvent code.AltRight (named key-AltGraph) none at.Right Released false false none (named key-AltGraph) ∷ [])) ∷
           [];
     }
 
@@ -210,10 +246,10 @@ focus-inside =
     record {
       start = freshSession;
       calls =
-          (bring us (message 0x100 0x31 0x20001), answered (some 0) (Value zeroResult) []) ∷
-          (bring us-busy (message 0x08 0x00 0x00), answered none lent []) ∷
-          (bring us-busy (message 0x07 0x00 0x00), answered none lent []) ∷
-          (finish us 0 none, answered none lent (keyEvent code.Digit1 (unidentified (native.Windows 0x02)) none at.Standard Pressed false false none (character (0x31 ∷ [])) ∷ keyEvent code.CapsLock (named key-CapsLock) none at.Standard Released false true none (named key-CapsLock) ∷ keyEvent code.ControlLeft (named key-Control) none at.Left Released false true none (named key-Control) ∷ keyEvent code.ShiftLeft (named key-Shift) none at.Left Released false true none (named key-Shift) ∷ keyEvent code.Digit1 (character (0x31 ∷ [])) none at.Standard Released false true none (character (0x31 ∷ [])) ∷ keyEvent code.KeyE (character (0x45 ∷ [])) none at.Standard Released false true none (character (0x65 ∷ [])) ∷ keyEvent code.CapsLock (named key-CapsLock) none at.Standard Pressed false true none (named key-CapsLock) ∷ keyEvent code.Digit1 (character (0x31 ∷ [])) (some (0x31 ∷ [])) at.Standard Pressed false true (some (0x31 ∷ [])) (character (0x31 ∷ [])) ∷ keyEvent code.KeyE (character (0x45 ∷ [])) (some (0x45 ∷ [])) at.Standard Pressed false true (some (0x45 ∷ [])) (character (0x65 ∷ [])) ∷ keyEvent code.ControlLeft (named key-Control) none at.Left Pressed false true none (named key-Control) ∷ keyEvent code.ShiftLeft (named key-Shift) none at.Left Pressed false true none (named key-Shift) ∷ [])) ∷
+          (bring us table (message 0x100 0x31 0x20001), answered (some 0) (Value zeroResult) []) ∷
+          (bring us-busy table (message 0x08 0x00 0x00), answered none lent []) ∷
+          (bring us-busy table (message 0x07 0x00 0x00), answered none lent []) ∷
+          (finish us table 0 none, answered none lent (keyEvent code.Digit1 (unidentified (native.Windows 0x02)) none at.Standard Pressed false false none (character (0x31 ∷ [])) ∷ keyEvent code.CapsLock (named key-CapsLock) none at.Standard Released false true none (named key-CapsLock) ∷ keyEvent code.ControlLeft (named key-Control) none at.Left Released false true none (named key-Control) ∷ keyEvent code.ShiftLeft (named key-Shift) none at.Left Released false true none (named key-Shift) ∷ keyEvent code.Digit1 (character (0x31 ∷ [])) none at.Standard Released false true none (character (0x31 ∷ [])) ∷ keyEvent code.KeyE (character (0x45 ∷ [])) none at.Standard Released false true none (character (0x65 ∷ [])) ∷ keyEvent code.CapsLock (named key-CapsLock) none at.Standard Pressed false true none (named key-CapsLock) ∷ keyEvent code.Digit1 (character (0x31 ∷ [])) (some (0x31 ∷ [])) at.Standard Pressed false true (some (0x31 ∷ [])) (character (0x31 ∷ [])) ∷ keyEvent code.KeyE (character (0x45 ∷ [])) (some (0x45 ∷ [])) at.Standard Pressed false true (some (0x45 ∷ [])) (character (0x65 ∷ [])) ∷ keyEvent code.ControlLeft (named key-Control) none at.Left Pressed false true none (named key-Control) ∷ keyEvent code.ShiftLeft (named key-Shift) none at.Left Pressed false true none (named key-Shift) ∷ [])) ∷
           [];
     }
 
@@ -223,10 +259,10 @@ enter =
     record {
       start = freshSession;
       calls =
-          (bring us (message 0x100 0x0D 0x1C0001), answered (some 0) (Value zeroResult) []) ∷
-          (finish us 0 (some (message 0x102 0x31 0x20001)), answered none lent []) ∷
-          (bring us (message 0x102 0x0D 0x20001), answered (some 0) (Value zeroResult) []) ∷
-          (finish us 0 none, answered none lent (keyEvent code.Enter (named key-Enter) (some (0x0D ∷ [])) at.Standard Pressed false false (some (0x0D ∷ [])) (named key-Enter) ∷ [])) ∷
+          (bring us table (message 0x100 0x0D 0x1C0001), answered (some 0) (Value zeroResult) []) ∷
+          (finish us table 0 (some (message 0x102 0x31 0x20001)), answered none lent []) ∷
+          (bring us table (message 0x102 0x0D 0x20001), answered (some 0) (Value zeroResult) []) ∷
+          (finish us table 0 none, answered none lent (keyEvent code.Enter (named key-Enter) (some (0x0D ∷ [])) at.Standard Pressed false false (some (0x0D ∷ [])) (named key-Enter) ∷ [])) ∷
           [];
     }
 
@@ -236,10 +272,10 @@ dead-key-and-text =
     record {
       start = freshSession;
       calls =
-          (bring german (message 0x100 0xDD 0xD0001), answered (some 0) (Value zeroResult) []) ∷
-          (finish german 0 (some (message 0x102 0x31 0x20001)), answered none lent []) ∷
-          (bring german (message 0x102 0x27 0x20001), answered (some 0) (Value zeroResult) []) ∷
-          (finish german 0 none, answered none lent (keyEvent code.Equal (deadChar 0xB4) (some (0x27 ∷ [])) at.Standard Pressed false false (some (0x27 ∷ [])) (character (0xC2 ∷ 0xB4 ∷ [])) ∷ [])) ∷
+          (bring german table (message 0x100 0xDD 0xD0001), answered (some 0) (Value zeroResult) []) ∷
+          (finish german table 0 (some (message 0x102 0x31 0x20001)), answered none lent []) ∷
+          (bring german table (message 0x102 0x27 0x20001), answered (some 0) (Value zeroResult) []) ∷
+          (finish german table 0 none, answered none lent (keyEvent code.Equal (deadChar 0xB4) (some (0x27 ∷ [])) at.Standard Pressed false false (some (0x27 ∷ [])) (character (0xC2 ∷ 0xB4 ∷ [])) ∷ [])) ∷
           [];
     }
 
@@ -249,10 +285,10 @@ control-at-press =
     record {
       start = freshSession;
       calls =
-          (bring us (message 0x100 0x31 0x20001), answered (some 0) (Value zeroResult) []) ∷
-          (finish us-control 0 (some (message 0x102 0x31 0x20001)), answered none lent []) ∷
-          (bring us (message 0x102 0x78 0x20001), answered (some 0) (Value zeroResult) []) ∷
-          (finish us 0 none, answered none lent (keyEvent code.Digit1 (character (0x31 ∷ [])) (some (0x78 ∷ [])) at.Standard Pressed false false (some (0x78 ∷ [])) (character (0x31 ∷ [])) ∷ [])) ∷
+          (bring us table (message 0x100 0x31 0x20001), answered (some 0) (Value zeroResult) []) ∷
+          (finish us-control table 0 (some (message 0x102 0x31 0x20001)), answered none lent []) ∷
+          (bring us table (message 0x102 0x78 0x20001), answered (some 0) (Value zeroResult) []) ∷
+          (finish us table 0 none, answered none lent (keyEvent code.Digit1 (character (0x31 ∷ [])) (some (0x78 ∷ [])) at.Standard Pressed false false (some (0x78 ∷ [])) (character (0x31 ∷ [])) ∷ [])) ∷
           [];
     }
 
@@ -262,10 +298,10 @@ control-at-character =
     record {
       start = freshSession;
       calls =
-          (bring us (message 0x100 0x31 0x20001), answered (some 0) (Value zeroResult) []) ∷
-          (finish us 0 (some (message 0x102 0x31 0x20001)), answered none lent []) ∷
-          (bring us (message 0x102 0x11 0x20001), answered (some 0) (Value zeroResult) []) ∷
-          (finish us-control 0 none, answered none lent (keyEvent code.Digit1 (character (0x31 ∷ [])) (some (0x31 ∷ [])) at.Standard Pressed false false (some (0x11 ∷ [])) (character (0x31 ∷ [])) ∷ [])) ∷
+          (bring us table (message 0x100 0x31 0x20001), answered (some 0) (Value zeroResult) []) ∷
+          (finish us table 0 (some (message 0x102 0x31 0x20001)), answered none lent []) ∷
+          (bring us table (message 0x102 0x11 0x20001), answered (some 0) (Value zeroResult) []) ∷
+          (finish us-control table 0 none, answered none lent (keyEvent code.Digit1 (character (0x31 ∷ [])) (some (0x31 ∷ [])) at.Standard Pressed false false (some (0x11 ∷ [])) (character (0x31 ∷ [])) ∷ [])) ∷
           [];
     }
 
@@ -275,8 +311,8 @@ bare-control =
     record {
       start = freshSession;
       calls =
-          (bring german (message 0x100 0x45 0x120001), answered (some 0) (Value zeroResult) []) ∷
-          (finish german-alt-gr 0 none, answered none lent (keyEvent code.KeyE (character (0xE2 ∷ 0x82 ∷ 0xAC ∷ [])) none at.Standard Pressed false false none (character (0x65 ∷ [])) ∷ [])) ∷
+          (bring german table (message 0x100 0x45 0x120001), answered (some 0) (Value zeroResult) []) ∷
+          (finish german-alt-gr table 0 none, answered none lent (keyEvent code.KeyE (character (0xE2 ∷ 0x82 ∷ 0xAC ∷ [])) none at.Standard Pressed false false none (character (0x65 ∷ [])) ∷ [])) ∷
           [];
     }
 
@@ -286,10 +322,10 @@ alt-gr-text =
     record {
       start = freshSession;
       calls =
-          (bring german-alt-gr (message 0x100 0x45 0x120001), answered (some 0) (Value zeroResult) []) ∷
-          (finish german-alt-gr 0 (some (message 0x102 0x31 0x20001)), answered none lent []) ∷
-          (bring german-alt-gr (message 0x102 0xE9 0x20001), answered (some 0) (Value zeroResult) []) ∷
-          (finish german-alt-gr 0 none, answered none lent (keyEvent code.KeyE (character (0xE2 ∷ 0x82 ∷ 0xAC ∷ [])) (some (0xC3 ∷ 0xA9 ∷ [])) at.Standard Pressed false false (some (0xC3 ∷ 0xA9 ∷ [])) (character (0x65 ∷ [])) ∷ [])) ∷
+          (bring german-alt-gr table (message 0x100 0x45 0x120001), answered (some 0) (Value zeroResult) []) ∷
+          (finish german-alt-gr table 0 (some (message 0x102 0x31 0x20001)), answered none lent []) ∷
+          (bring german-alt-gr table (message 0x102 0xE9 0x20001), answered (some 0) (Value zeroResult) []) ∷
+          (finish german-alt-gr table 0 none, answered none lent (keyEvent code.KeyE (character (0xE2 ∷ 0x82 ∷ 0xAC ∷ [])) (some (0xC3 ∷ 0xA9 ∷ [])) at.Standard Pressed false false (some (0xC3 ∷ 0xA9 ∷ [])) (character (0x65 ∷ [])) ∷ [])) ∷
           [];
     }
 
@@ -299,10 +335,10 @@ unpaired =
     record {
       start = freshSession;
       calls =
-          (bring us (message 0x100 0x31 0x20001), answered (some 0) (Value zeroResult) []) ∷
-          (finish us 0 (some (message 0x102 0x31 0x20001)), answered none lent []) ∷
-          (bring us (message 0x102 0xD83D 0x20001), answered (some 0) (Value zeroResult) []) ∷
-          (finish us 0 none, answered none lent (keyEvent code.Digit1 (unidentified (native.Windows 0x02)) none at.Standard Pressed false false none (character (0x31 ∷ [])) ∷ [])) ∷
+          (bring us table (message 0x100 0x31 0x20001), answered (some 0) (Value zeroResult) []) ∷
+          (finish us table 0 (some (message 0x102 0x31 0x20001)), answered none lent []) ∷
+          (bring us table (message 0x102 0xD83D 0x20001), answered (some 0) (Value zeroResult) []) ∷
+          (finish us table 0 none, answered none lent (keyEvent code.Digit1 (unidentified (native.Windows 0x02)) none at.Standard Pressed false false none (character (0x31 ∷ [])) ∷ [])) ∷
           [];
     }
 
@@ -312,12 +348,12 @@ unpaired-behind-letter =
     record {
       start = freshSession;
       calls =
-          (bring us (message 0x100 0x31 0x20001), answered (some 0) (Value zeroResult) []) ∷
-          (finish us 0 (some (message 0x102 0x31 0x20001)), answered none lent []) ∷
-          (bring us (message 0x102 0x61 0x20001), answered (some 0) (Value zeroResult) []) ∷
-          (finish us 0 (some (message 0x102 0x31 0x20001)), answered none lent []) ∷
-          (bring us (message 0x102 0xD83D 0x20001), answered (some 0) (Value zeroResult) []) ∷
-          (finish us 0 none, answered none lent (keyEvent code.Digit1 (unidentified (native.Windows 0x02)) none at.Standard Pressed false false none (character (0x31 ∷ [])) ∷ [])) ∷
+          (bring us table (message 0x100 0x31 0x20001), answered (some 0) (Value zeroResult) []) ∷
+          (finish us table 0 (some (message 0x102 0x31 0x20001)), answered none lent []) ∷
+          (bring us table (message 0x102 0x61 0x20001), answered (some 0) (Value zeroResult) []) ∷
+          (finish us table 0 (some (message 0x102 0x31 0x20001)), answered none lent []) ∷
+          (bring us table (message 0x102 0xD83D 0x20001), answered (some 0) (Value zeroResult) []) ∷
+          (finish us table 0 none, answered none lent (keyEvent code.Digit1 (unidentified (native.Windows 0x02)) none at.Standard Pressed false false none (character (0x31 ∷ [])) ∷ [])) ∷
           [];
     }
 
@@ -327,11 +363,11 @@ dead-character-behind-text =
     record {
       start = freshSession;
       calls =
-          (bring us (message 0x100 0x31 0x20001), answered (some 0) (Value zeroResult) []) ∷
-          (finish us 0 (some (message 0x102 0x31 0x20001)), answered none lent []) ∷
-          (bring us (message 0x102 0x61 0x20001), answered (some 0) (Value zeroResult) []) ∷
-          (finish us 0 (some (message 0x102 0x31 0x20001)), answered none lent []) ∷
-          (bring us (message 0x103 0xB4 0xD0001), answered none (Value zeroResult) (keyEvent code.Digit1 (unidentified (native.Windows 0x02)) none at.Standard Pressed false false (some (0x61 ∷ [])) (character (0x31 ∷ [])) ∷ [])) ∷
+          (bring us table (message 0x100 0x31 0x20001), answered (some 0) (Value zeroResult) []) ∷
+          (finish us table 0 (some (message 0x102 0x31 0x20001)), answered none lent []) ∷
+          (bring us table (message 0x102 0x61 0x20001), answered (some 0) (Value zeroResult) []) ∷
+          (finish us table 0 (some (message 0x102 0x31 0x20001)), answered none lent []) ∷
+          (bring us table (message 0x103 0xB4 0xD0001), answered none (Value zeroResult) (keyEvent code.Digit1 (unidentified (native.Windows 0x02)) none at.Standard Pressed false false (some (0x61 ∷ [])) (character (0x31 ∷ [])) ∷ [])) ∷
           [];
     }
 
@@ -341,8 +377,8 @@ dead-without-character =
     record {
       start = freshSession;
       calls =
-          (bring german (message 0x100 0xDE 0x280001), answered (some 0) (Value zeroResult) []) ∷
-          (finish german 0 none, answered none lent (keyEvent code.Quote dead none at.Standard Pressed false false none (unidentified native.Unidentified) ∷ [])) ∷
+          (bring german table (message 0x100 0xDE 0x280001), answered (some 0) (Value zeroResult) []) ∷
+          (finish german table 0 none, answered none lent (keyEvent code.Quote dead none at.Standard Pressed false false none (unidentified native.Unidentified) ∷ [])) ∷
           [];
     }
 
@@ -352,7 +388,7 @@ dead-at-focus =
     record {
       start = freshSession;
       calls =
-          (bring german-typing (message 0x07 0x00 0x00), answered none lent (keyEvent code.Equal (deadChar 0xB4) none at.Standard Pressed false true none (deadChar 0xB4) ∷ keyEvent code.Quote dead none at.Standard Pressed false true none dead ∷ [])) ∷
+          (bring german-typing table (message 0x07 0x00 0x00), answered none lent (keyEvent code.Equal (deadChar 0xB4) none at.Standard Pressed false true none (deadChar 0xB4) ∷ keyEvent code.Quote dead none at.Standard Pressed false true none dead ∷ [])) ∷
           [];
     }
 
@@ -362,10 +398,10 @@ no-text =
     record {
       start = freshSession;
       calls =
-          (bring us (message 0x100 0x31 0x20001), answered (some 0) (Value zeroResult) []) ∷
-          (finish us 0 none, answered none lent (keyEvent code.Digit1 (unidentified (native.Windows 0x02)) none at.Standard Pressed false false none (character (0x31 ∷ [])) ∷ [])) ∷
-          (bring us (message 0x100 0x31 0x01), answered (some 0) (Value zeroResult) []) ∷
-          (finish us 0 none, answered none lent (keyEvent code.Digit1 (unidentified (native.Windows 0x02)) none at.Standard Pressed false false none (character (0x31 ∷ [])) ∷ [])) ∷
+          (bring us table (message 0x100 0x31 0x20001), answered (some 0) (Value zeroResult) []) ∷
+          (finish us table 0 none, answered none lent (keyEvent code.Digit1 (unidentified (native.Windows 0x02)) none at.Standard Pressed false false none (character (0x31 ∷ [])) ∷ [])) ∷
+          (bring us table (message 0x100 0x31 0x01), answered (some 0) (Value zeroResult) []) ∷
+          (finish us table 0 none, answered none lent (keyEvent code.Digit1 (unidentified (native.Windows 0x02)) none at.Standard Pressed false false none (character (0x31 ∷ [])) ∷ [])) ∷
           [];
     }
 
@@ -375,8 +411,8 @@ listed-unidentified =
     record {
       start = freshSession;
       calls =
-          (bring odd (message 0x100 0x31 0x20001), answered (some 0) (Value zeroResult) []) ∷
-          (finish odd 0 none, answered none lent (keyEvent code.Digit1 (unidentified (native.Windows 0x7F)) none at.Standard Pressed false false none (unidentified (native.Windows 0x7F)) ∷ [])) ∷
+          (bring odd table (message 0x100 0x31 0x20001), answered (some 0) (Value zeroResult) []) ∷
+          (finish odd table 0 none, answered none lent (keyEvent code.Digit1 (unidentified (native.Windows 0x7F)) none at.Standard Pressed false false none (unidentified (native.Windows 0x7F)) ∷ [])) ∷
           [];
     }
 
@@ -386,8 +422,8 @@ release-key =
     record {
       start = freshSession;
       calls =
-          (bring us-shift (message 0x101 0x31 0xC0020001), answered (some 0) (Value zeroResult) []) ∷
-          (finish us-shift 0 none, answered none lent (keyEvent code.Digit1 (character (0x21 ∷ [])) none at.Standard Released false false none (character (0x31 ∷ [])) ∷ [])) ∷
+          (bring us-shift table (message 0x101 0x31 0xC0020001), answered (some 0) (Value zeroResult) []) ∷
+          (finish us-shift table 0 none, answered none lent (keyEvent code.Digit1 (character (0x21 ∷ [])) none at.Standard Released false false none (character (0x31 ∷ [])) ∷ [])) ∷
           [];
     }
 
@@ -397,9 +433,9 @@ toggles-at-focus =
     record {
       start = freshSession;
       calls =
-          (bring us-shift (message 0x07 0x00 0x00), answered none lent (keyEvent code.Digit1 (character (0x31 ∷ [])) (some (0x31 ∷ [])) at.Standard Pressed false true (some (0x31 ∷ [])) (character (0x31 ∷ [])) ∷ keyEvent code.ShiftLeft (named key-Shift) none at.Left Pressed false true none (named key-Shift) ∷ [])) ∷
-          (bring us-busy (message 0x07 0x00 0x00), answered none lent (keyEvent code.CapsLock (named key-CapsLock) none at.Standard Pressed false true none (named key-CapsLock) ∷ keyEvent code.Digit1 (character (0x31 ∷ [])) (some (0x31 ∷ [])) at.Standard Pressed false true (some (0x31 ∷ [])) (character (0x31 ∷ [])) ∷ keyEvent code.KeyE (character (0x45 ∷ [])) (some (0x45 ∷ [])) at.Standard Pressed false true (some (0x45 ∷ [])) (character (0x65 ∷ [])) ∷ keyEvent code.ControlLeft (named key-Control) none at.Left Pressed false true none (named key-Control) ∷ keyEvent code.ShiftLeft (named key-Shift) none at.Left Pressed false true none (named key-Shift) ∷ [])) ∷
-          (bring us-busy (message 0x08 0x00 0x00), answered none lent (keyEvent code.CapsLock (named key-CapsLock) none at.Standard Released false true none (named key-CapsLock) ∷ keyEvent code.ControlLeft (named key-Control) none at.Left Released false true none (named key-Control) ∷ keyEvent code.ShiftLeft (named key-Shift) none at.Left Released false true none (named key-Shift) ∷ keyEvent code.Digit1 (character (0x31 ∷ [])) none at.Standard Released false true none (character (0x31 ∷ [])) ∷ keyEvent code.KeyE (character (0x45 ∷ [])) none at.Standard Released false true none (character (0x65 ∷ [])) ∷ [])) ∷
+          (bring us-shift table (message 0x07 0x00 0x00), answered none lent (keyEvent code.Digit1 (character (0x31 ∷ [])) (some (0x31 ∷ [])) at.Standard Pressed false true (some (0x31 ∷ [])) (character (0x31 ∷ [])) ∷ keyEvent code.ShiftLeft (named key-Shift) none at.Left Pressed false true none (named key-Shift) ∷ [])) ∷
+          (bring us-busy table (message 0x07 0x00 0x00), answered none lent (keyEvent code.CapsLock (named key-CapsLock) none at.Standard Pressed false true none (named key-CapsLock) ∷ keyEvent code.Digit1 (character (0x31 ∷ [])) (some (0x31 ∷ [])) at.Standard Pressed false true (some (0x31 ∷ [])) (character (0x31 ∷ [])) ∷ keyEvent code.KeyE (character (0x45 ∷ [])) (some (0x45 ∷ [])) at.Standard Pressed false true (some (0x45 ∷ [])) (character (0x65 ∷ [])) ∷ keyEvent code.ControlLeft (named key-Control) none at.Left Pressed false true none (named key-Control) ∷ keyEvent code.ShiftLeft (named key-Shift) none at.Left Pressed false true none (named key-Shift) ∷ [])) ∷
+          (bring us-busy table (message 0x08 0x00 0x00), answered none lent (keyEvent code.CapsLock (named key-CapsLock) none at.Standard Released false true none (named key-CapsLock) ∷ keyEvent code.ControlLeft (named key-Control) none at.Left Released false true none (named key-Control) ∷ keyEvent code.ShiftLeft (named key-Shift) none at.Left Released false true none (named key-Shift) ∷ keyEvent code.Digit1 (character (0x31 ∷ [])) none at.Standard Released false true none (character (0x31 ∷ [])) ∷ keyEvent code.KeyE (character (0x45 ∷ [])) none at.Standard Released false true none (character (0x65 ∷ [])) ∷ [])) ∷
           [];
     }
 
@@ -409,11 +445,11 @@ pause-at-focus =
     record {
       start = freshSession;
       calls =
-          (bring us-cancel (message 0x07 0x00 0x00), answered none lent (keyEvent code.Pause (unidentified (native.Windows 0xE046)) none at.Standard Pressed false true none (unidentified (native.Windows 0xE046)) ∷ keyEvent code.ControlLeft (named key-Control) none at.Left Pressed false true none (named key-Control) ∷ [])) ∷
-          (bring us-cancel (message 0x100 0x03 0x1460001), answered (some 0) (Value zeroResult) []) ∷
-          (finish us-cancel 0 none, answered none lent (keyEvent code.Pause (named key-Pause) none at.Standard Pressed false false none (named key-Pause) ∷ [])) ∷
-          (bring us-cancel (message 0x101 0x03 0xC1460001), answered (some 0) (Value zeroResult) []) ∷
-          (finish us-cancel 0 none, answered none lent (keyEvent code.Pause (named key-Pause) none at.Standard Released false false none (named key-Pause) ∷ [])) ∷
+          (bring us-cancel table (message 0x07 0x00 0x00), answered none lent (keyEvent code.Pause (unidentified (native.Windows 0xE046)) none at.Standard Pressed false true none (unidentified (native.Windows 0xE046)) ∷ keyEvent code.ControlLeft (named key-Control) none at.Left Pressed false true none (named key-Control) ∷ [])) ∷
+          (bring us-cancel table (message 0x100 0x03 0x1460001), answered (some 0) (Value zeroResult) []) ∷
+          (finish us-cancel table 0 none, answered none lent (keyEvent code.Pause (named key-Pause) none at.Standard Pressed false false none (named key-Pause) ∷ [])) ∷
+          (bring us-cancel table (message 0x101 0x03 0xC1460001), answered (some 0) (Value zeroResult) []) ∷
+          (finish us-cancel table 0 none, answered none lent (keyEvent code.Pause (named key-Pause) none at.Standard Released false false none (named key-Pause) ∷ [])) ∷
           [];
     }
 
@@ -423,9 +459,9 @@ num-lock =
     record {
       start = freshSession;
       calls =
-          (bring us-num-lock (message 0x101 0x60 0xC0520001), answered (some 0) (Value zeroResult) []) ∷
-          (finish us-num-lock 0 none, answered none lent (keyEvent code.Numpad0 (character (0x30 ∷ [])) none at.Numpad Released false false none (named key-Insert) ∷ [])) ∷
-          (bring us-num-lock (message 0x07 0x00 0x00), answered none lent (keyEvent code.Numpad0 (character (0x30 ∷ [])) (some (0x30 ∷ [])) at.Numpad Pressed false true (some (0x30 ∷ [])) (named key-Insert) ∷ [])) ∷
+          (bring us-num-lock table (message 0x101 0x60 0xC0520001), answered (some 0) (Value zeroResult) []) ∷
+          (finish us-num-lock table 0 none, answered none lent (keyEvent code.Numpad0 (character (0x30 ∷ [])) none at.Numpad Released false false none (named key-Insert) ∷ [])) ∷
+          (bring us-num-lock table (message 0x07 0x00 0x00), answered none lent (keyEvent code.Numpad0 (character (0x30 ∷ [])) (some (0x30 ∷ [])) at.Numpad Pressed false true (some (0x30 ∷ [])) (named key-Insert) ∷ [])) ∷
           [];
     }
 
@@ -435,8 +471,8 @@ page-e1 =
     record {
       start = freshSession;
       calls =
-          (bring odd (message 0x101 0x0D 0xC0000001), answered (some 0) (Value zeroResult) []) ∷
-          (finish odd 0 none, answered none lent (keyEvent (code.Unidentified (native.Windows 0xE11C)) (named key-Enter) none at.Numpad Released false false none (named key-Enter) ∷ [])) ∷
+          (bring odd table (message 0x101 0x0D 0xC0000001), answered (some 0) (Value zeroResult) []) ∷
+          (finish odd table 0 none, answered none lent (keyEvent (code.Unidentified (native.Windows 0xE11C)) (named key-Enter) none at.Numpad Released false false none (named key-Enter) ∷ [])) ∷
           [];
     }
 
@@ -446,16 +482,16 @@ menu-and-above =
     record {
       start = freshSession;
       calls =
-          (bring odd (message 0x101 0x12 0xC0380001), answered (some 0) (Value zeroResult) []) ∷
-          (finish odd 0 none, answered none lent (keyEvent code.AltLeft (character (0x6D ∷ [])) none at.Standard Released false false none (character (0x6D ∷ [])) ∷ [])) ∷
-          (bring odd (message 0x101 0x112 0xC0380001), answered (some 0) (Value zeroResult) []) ∷
-          (finish odd 0 none, answered none lent (keyEvent code.AltLeft (unidentified (native.Windows 0x38)) none at.Standard Released false false none (unidentified (native.Windows 0x38)) ∷ [])) ∷
-          (bring odd (message 0x101 0x131 0xC0020001), answered (some 0) (Value zeroResult) []) ∷
-          (finish odd 0 none, answered none lent (keyEvent code.Digit1 (character (0x31 ∷ [])) none at.Standard Released false false none (character (0x31 ∷ [])) ∷ [])) ∷
-          (bring odd (message 0x101 0x10031 0xC0000001), answered (some 0) (Value zeroResult) []) ∷
-          (finish odd 0 none, answered none lent (keyEvent code.Digit1 (unidentified (native.Windows 0x7F)) none at.Standard Released false false none (unidentified (native.Windows 0x7F)) ∷ [])) ∷
-          (bring odd (message 0x101 0x131 0xC0000001), answered (some 0) (Value zeroResult) []) ∷
-          (finish odd 0 none, answered none lent (keyEvent (code.Unidentified (native.Windows 0x00)) (unidentified (native.Windows 0x00)) none at.Standard Released false false none (unidentified (native.Windows 0x00)) ∷ [])) ∷
+          (bring odd table (message 0x101 0x12 0xC0380001), answered (some 0) (Value zeroResult) []) ∷
+          (finish odd table 0 none, answered none lent (keyEvent code.AltLeft (character (0x6D ∷ [])) none at.Standard Released false false none (character (0x6D ∷ [])) ∷ [])) ∷
+          (bring odd table (message 0x101 0x112 0xC0380001), answered (some 0) (Value zeroResult) []) ∷
+          (finish odd table 0 none, answered none lent (keyEvent code.AltLeft (unidentified (native.Windows 0x38)) none at.Standard Released false false none (unidentified (native.Windows 0x38)) ∷ [])) ∷
+          (bring odd table (message 0x101 0x131 0xC0020001), answered (some 0) (Value zeroResult) []) ∷
+          (finish odd table 0 none, answered none lent (keyEvent code.Digit1 (character (0x31 ∷ [])) none at.Standard Released false false none (character (0x31 ∷ [])) ∷ [])) ∷
+          (bring odd table (message 0x101 0x10031 0xC0000001), answered (some 0) (Value zeroResult) []) ∷
+          (finish odd table 0 none, answered none lent (keyEvent code.Digit1 (unidentified (native.Windows 0x7F)) none at.Standard Released false false none (unidentified (native.Windows 0x7F)) ∷ [])) ∷
+          (bring odd table (message 0x101 0x131 0xC0000001), answered (some 0) (Value zeroResult) []) ∷
+          (finish odd table 0 none, answered none lent (keyEvent (code.Unidentified (native.Windows 0x00)) (unidentified (native.Windows 0x00)) none at.Standard Released false false none (unidentified (native.Windows 0x00)) ∷ [])) ∷
           [];
     }
 
@@ -465,8 +501,8 @@ unlisted-code =
     record {
       start = freshSession;
       calls =
-          (bring odd (message 0x101 0x07 0xC07F0001), answered (some 0) (Value zeroResult) []) ∷
-          (finish odd 0 none, answered none lent (keyEvent (code.Unidentified (native.Windows 0x7F)) (character (0xC3 ∷ 0x9F ∷ [])) none at.Standard Released false false none (character (0xC3 ∷ 0x9F ∷ [])) ∷ [])) ∷
+          (bring odd table (message 0x101 0x07 0xC07F0001), answered (some 0) (Value zeroResult) []) ∷
+          (finish odd table 0 none, answered none lent (keyEvent (code.Unidentified (native.Windows 0x7F)) (character (0xC3 ∷ 0x9F ∷ [])) none at.Standard Released false false none (character (0xC3 ∷ 0x9F ∷ [])) ∷ [])) ∷
           [];
     }
 
@@ -476,10 +512,10 @@ wide-surrogate =
     record {
       start = freshSession;
       calls =
-          (bring us (message 0x100 0x31 0x20001), answered (some 0) (Value zeroResult) []) ∷
-          (finish us 0 (some (message 0x102 0x31 0x20001)), answered none lent []) ∷
-          (bring us (message 0x102 0x10000D800 0x20001), answered (some 0) (Value zeroResult) []) ∷
-          (finish us 0 none, answered none lent (keyEvent code.Digit1 (character (0x31 ∷ [])) (some (0x00 ∷ 0x00 ∷ [])) at.Standard Pressed false false (some (0x00 ∷ 0x00 ∷ [])) (character (0x31 ∷ [])) ∷ [])) ∷
+          (bring us table (message 0x100 0x31 0x20001), answered (some 0) (Value zeroResult) []) ∷
+          (finish us table 0 (some (message 0x102 0x31 0x20001)), answered none lent []) ∷
+          (bring us table (message 0x102 0x10000D800 0x20001), answered (some 0) (Value zeroResult) []) ∷
+          (finish us table 0 none, answered none lent (keyEvent code.Digit1 (character (0x31 ∷ [])) (some (0x00 ∷ 0x00 ∷ [])) at.Standard Pressed false false (some (0x00 ∷ 0x00 ∷ [])) (character (0x31 ∷ [])) ∷ [])) ∷
           [];
     }
 
@@ -489,35 +525,41 @@ zero-units =
     record {
       start = freshSession;
       calls =
-          (bring us (message 0x100 0x31 0x20001), answered (some 0) (Value zeroResult) []) ∷
-          (finish us 0 (some (message 0x102 0x31 0x20001)), answered none lent []) ∷
-          (bring us (message 0x102 0x110000 0x20001), answered (some 0) (Value zeroResult) []) ∷
-          (finish us 0 (some (message 0x102 0x31 0x20001)), answered none lent []) ∷
-          (bring us (message 0x102 0x100000061 0x20001), answered (some 0) (Value zeroResult) []) ∷
-          (finish us 0 none, answered none lent (keyEvent code.Digit1 (character (0x31 ∷ [])) (some (0x00 ∷ 0x00 ∷ 0x61 ∷ [])) at.Standard Pressed false false (some (0x00 ∷ 0x00 ∷ 0x61 ∷ [])) (character (0x31 ∷ [])) ∷ [])) ∷
+          (bring us table (message 0x100 0x31 0x20001), answered (some 0) (Value zeroResult) []) ∷
+          (finish us table 0 (some (message 0x102 0x31 0x20001)), answered none lent []) ∷
+          (bring us table (message 0x102 0x110000 0x20001), answered (some 0) (Value zeroResult) []) ∷
+          (finish us table 0 (some (message 0x102 0x31 0x20001)), answered none lent []) ∷
+          (bring us table (message 0x102 0x100000061 0x20001), answered (some 0) (Value zeroResult) []) ∷
+          (finish us table 0 none, answered none lent (keyEvent code.Digit1 (character (0x31 ∷ [])) (some (0x00 ∷ 0x00 ∷ 0x61 ∷ [])) at.Standard Pressed false false (some (0x00 ∷ 0x00 ∷ 0x61 ∷ [])) (character (0x31 ∷ [])) ∷ [])) ∷
           [];
     }
 
--- CR LF is one piece, and so is a letter with marks (by SCOPE 3.13's stand-in for the counter, in tao too)
+-- CR LF is one piece, and so is a letter with marks: the typed text is the logical key
 abbrev pub one-piece : Example
 one-piece =
     record {
       start = freshSession;
       calls =
-          (bring us (message 0x100 0x31 0x20001), answered (some 0) (Value zeroResult) []) ∷
-          (finish us 0 (some (message 0x102 0x31 0x20001)), answered none lent []) ∷
-          (bring us (message 0x102 0x0D 0x20001), answered (some 0) (Value zeroResult) []) ∷
-          (finish us 0 (some (message 0x102 0x31 0x20001)), answered none lent []) ∷
-          (bring us (message 0x102 0x0A 0x20001), answered (some 0) (Value zeroResult) []) ∷
-          (finish us 0 none, answered none lent (keyEvent code.Digit1 (character (0x0D ∷ 0x0A ∷ [])) (some (0x0D ∷ 0x0A ∷ [])) at.Standard Pressed false false (some (0x0D ∷ 0x0A ∷ [])) (character (0x31 ∷ [])) ∷ [])) ∷
-          (bring us (message 0x100 0x31 0x20001), answered (some 0) (Value zeroResult) []) ∷
-          (finish us 0 (some (message 0x102 0x31 0x20001)), answered none lent []) ∷
-          (bring us (message 0x102 0x65 0x20001), answered (some 0) (Value zeroResult) []) ∷
-          (finish us 0 (some (message 0x102 0x31 0x20001)), answered none lent []) ∷
-          (bring us (message 0x102 0x301 0x20001), answered (some 0) (Value zeroResult) []) ∷
-          (finish us 0 (some (message 0x102 0x31 0x20001)), answered none lent []) ∷
-          (bring us (message 0x102 0x36F 0x20001), answered (some 0) (Value zeroResult) []) ∷
-          (finish us 0 none, answered none lent (keyEvent code.Digit1 (character (0x65 ∷ 0xCC ∷ 0x81 ∷ 0xCD ∷ 0xAF ∷ [])) (some (0x65 ∷ 0xCC ∷ 0x81 ∷ 0xCD ∷ 0xAF ∷ [])) at.Standard Pressed false false (some (0x65 ∷ 0xCC ∷ 0x81 ∷ 0xCD ∷ 0xAF ∷ [])) (character (0x31 ∷ [])) ∷ [])) ∷
+          (bring us table (message 0x100 0x31 0x20001), answered (some 0) (Value zeroResult) []) ∷
+          (finish us table 0 (some (message 0x102 0x31 0x20001)), answered none lent []) ∷
+          (bring us table (message 0x102 0x0D 0x20001), answered (some 0) (Value zeroResult) []) ∷
+          (finish us table 0 (some (message 0x102 0x31 0x20001)), answered none lent []) ∷
+          (bring us table (message 0x102 0x0A 0x20001), answered (some 0) (Value zeroResult) []) ∷
+          (finish us table 0 none, answered none lent (keyEvent code.Digit1 (character (0x0D ∷ 0x0A ∷ [])) (some (0x0D ∷ 0x0A ∷ [])) at.Standard Pressed false false (some (0x0D ∷ 0x0A ∷ [])) (character (0x31 ∷ [])) ∷ [])) ∷
+          (bring us table (message 0x100 0x31 0x20001), answered (some 0) (Value zeroResult) []) ∷
+          (finish us table 0 (some (message 0x102 0x31 0x20001)), answered none lent []) ∷
+          (bring us table (message 0x102 0x65 0x20001), answered (some 0) (Value zeroResult) []) ∷
+          (finish us table 0 (some (message 0x102 0x31 0x20001)), answered none lent []) ∷
+          (bring us table (message 0x102 0x301 0x20001), answered (some 0) (Value zeroResult) []) ∷
+          (finish us table 0 none, answered none lent (keyEvent code.Digit1 (character (0x65 ∷ 0xCC ∷ 0x81 ∷ [])) (some (0x65 ∷ 0xCC ∷ 0x81 ∷ [])) at.Standard Pressed false false (some (0x65 ∷ 0xCC ∷ 0x81 ∷ [])) (character (0x31 ∷ [])) ∷ [])) ∷
+          (bring us table (message 0x100 0x31 0x20001), answered (some 0) (Value zeroResult) []) ∷
+          (finish us table 0 (some (message 0x102 0x31 0x20001)), answered none lent []) ∷
+          (bring us table (message 0x102 0x65 0x20001), answered (some 0) (Value zeroResult) []) ∷
+          (finish us table 0 (some (message 0x102 0x31 0x20001)), answered none lent []) ∷
+          (bring us table (message 0x102 0x301 0x20001), answered (some 0) (Value zeroResult) []) ∷
+          (finish us table 0 (some (message 0x102 0x31 0x20001)), answered none lent []) ∷
+          (bring us table (message 0x102 0x36F 0x20001), answered (some 0) (Value zeroResult) []) ∷
+          (finish us table 0 none, answered none lent (keyEvent code.Digit1 (character (0x65 ∷ 0xCC ∷ 0x81 ∷ 0xCD ∷ 0xAF ∷ [])) (some (0x65 ∷ 0xCC ∷ 0x81 ∷ 0xCD ∷ 0xAF ∷ [])) at.Standard Pressed false false (some (0x65 ∷ 0xCC ∷ 0x81 ∷ 0xCD ∷ 0xAF ∷ [])) (character (0x31 ∷ [])) ∷ [])) ∷
           [];
     }
 
@@ -527,14 +569,216 @@ several-pieces =
     record {
       start = freshSession;
       calls =
-          (bring us (message 0x100 0x31 0x20001), answered (some 0) (Value zeroResult) []) ∷
-          (finish us 0 (some (message 0x102 0x31 0x20001)), answered none lent []) ∷
-          (bring us (message 0x102 0x0D 0x20001), answered (some 0) (Value zeroResult) []) ∷
-          (finish us 0 (some (message 0x102 0x31 0x20001)), answered none lent []) ∷
-          (bring us (message 0x102 0x0A 0x20001), answered (some 0) (Value zeroResult) []) ∷
-          (finish us 0 (some (message 0x102 0x31 0x20001)), answered none lent []) ∷
-          (bring us (message 0x102 0x301 0x20001), answered (some 0) (Value zeroResult) []) ∷
-          (finish us 0 none, answered none lent (keyEvent code.Digit1 (character (0x31 ∷ [])) (some (0x0D ∷ 0x0A ∷ 0xCC ∷ 0x81 ∷ [])) at.Standard Pressed false false (some (0x0D ∷ 0x0A ∷ 0xCC ∷ 0x81 ∷ [])) (character (0x31 ∷ [])) ∷ [])) ∷
+          (bring us table (message 0x100 0x31 0x20001), answered (some 0) (Value zeroResult) []) ∷
+          (finish us table 0 (some (message 0x102 0x31 0x20001)), answered none lent []) ∷
+          (bring us table (message 0x102 0x0D 0x20001), answered (some 0) (Value zeroResult) []) ∷
+          (finish us table 0 (some (message 0x102 0x31 0x20001)), answered none lent []) ∷
+          (bring us table (message 0x102 0x0A 0x20001), answered (some 0) (Value zeroResult) []) ∷
+          (finish us table 0 (some (message 0x102 0x31 0x20001)), answered none lent []) ∷
+          (bring us table (message 0x102 0x301 0x20001), answered (some 0) (Value zeroResult) []) ∷
+          (finish us table 0 none, answered none lent (keyEvent code.Digit1 (character (0x31 ∷ [])) (some (0x0D ∷ 0x0A ∷ 0xCC ∷ 0x81 ∷ [])) at.Standard Pressed false false (some (0x0D ∷ 0x0A ∷ 0xCC ∷ 0x81 ∷ [])) (character (0x31 ∷ [])) ∷ [])) ∷
+          [];
+    }
+
+-- classes come from the table alone: with no ranges CR LF is two pieces, and so are a letter and a mark
+abbrev pub no-ranges-of-class : Example
+no-ranges-of-class =
+    record {
+      start = freshSession;
+      calls =
+          (bring us no-ranges (message 0x100 0x31 0x20001), answered (some 0) (Value zeroResult) []) ∷
+          (finish us no-ranges 0 (some (message 0x102 0x31 0x20001)), answered none lent []) ∷
+          (bring us no-ranges (message 0x102 0x0D 0x20001), answered (some 0) (Value zeroResult) []) ∷
+          (finish us no-ranges 0 (some (message 0x102 0x31 0x20001)), answered none lent []) ∷
+          (bring us no-ranges (message 0x102 0x0A 0x20001), answered (some 0) (Value zeroResult) []) ∷
+          (finish us no-ranges 0 none, answered none lent (keyEvent code.Digit1 (character (0x31 ∷ [])) (some (0x0D ∷ 0x0A ∷ [])) at.Standard Pressed false false (some (0x0D ∷ 0x0A ∷ [])) (character (0x31 ∷ [])) ∷ [])) ∷
+          (bring us no-ranges (message 0x100 0x31 0x20001), answered (some 0) (Value zeroResult) []) ∷
+          (finish us no-ranges 0 (some (message 0x102 0x31 0x20001)), answered none lent []) ∷
+          (bring us no-ranges (message 0x102 0x65 0x20001), answered (some 0) (Value zeroResult) []) ∷
+          (finish us no-ranges 0 (some (message 0x102 0x31 0x20001)), answered none lent []) ∷
+          (bring us no-ranges (message 0x102 0x301 0x20001), answered (some 0) (Value zeroResult) []) ∷
+          (finish us no-ranges 0 none, answered none lent (keyEvent code.Digit1 (character (0x31 ∷ [])) (some (0x65 ∷ 0xCC ∷ 0x81 ∷ [])) at.Standard Pressed false false (some (0x65 ∷ 0xCC ∷ 0x81 ∷ [])) (character (0x31 ∷ [])) ∷ [])) ∷
+          [];
+    }
+
+-- two pictographs with a ZWJ between them are one piece (GB11), with an Extend before the ZWJ too
+abbrev pub joined-pictographs : Example
+joined-pictographs =
+    record {
+      start = freshSession;
+      calls =
+          (bring us table (message 0x100 0x31 0x20001), answered (some 0) (Value zeroResult) []) ∷
+          (finish us table 0 (some (message 0x102 0x31 0x20001)), answered none lent []) ∷
+          (bring us table (message 0x102 0x1F468 0x20001), answered (some 0) (Value zeroResult) []) ∷
+          (finish us table 0 (some (message 0x102 0x31 0x20001)), answered none lent []) ∷
+          (bring us table (message 0x102 0x200D 0x20001), answered (some 0) (Value zeroResult) []) ∷
+          (finish us table 0 (some (message 0x102 0x31 0x20001)), answered none lent []) ∷
+          (bring us table (message 0x102 0x1F469 0x20001), answered (some 0) (Value zeroResult) []) ∷
+          (finish us table 0 none, answered none lent (keyEvent code.Digit1 (character (0xF0 ∷ 0x9F ∷ 0x91 ∷ 0xA8 ∷ 0xE2 ∷ 0x80 ∷ 0x8D ∷ 0xF0 ∷ 0x9F ∷ 0x91 ∷ 0xA9 ∷ [])) (some (0xF0 ∷ 0x9F ∷ 0x91 ∷ 0xA8 ∷ 0xE2 ∷ 0x80 ∷ 0x8D ∷ 0xF0 ∷ 0x9F ∷ 0x91 ∷ 0xA9 ∷ [])) at.Standard Pressed false false (some (0xF0 ∷ 0x9F ∷ 0x91 ∷ 0xA8 ∷ 0xE2 ∷ 0x80 ∷ 0x8D ∷ 0xF0 ∷ 0x9F ∷ 0x91 ∷ 0xA9 ∷ [])) (character (0x31 ∷ [])) ∷ [])) ∷
+          (bring us table (message 0x100 0x31 0x20001), answered (some 0) (Value zeroResult) []) ∷
+          (finish us table 0 (some (message 0x102 0x31 0x20001)), answered none lent []) ∷
+          (bring us table (message 0x102 0x1F468 0x20001), answered (some 0) (Value zeroResult) []) ∷
+          (finish us table 0 (some (message 0x102 0x31 0x20001)), answered none lent []) ∷
+          (bring us table (message 0x102 0x1F3FB 0x20001), answered (some 0) (Value zeroResult) []) ∷
+          (finish us table 0 (some (message 0x102 0x31 0x20001)), answered none lent []) ∷
+          (bring us table (message 0x102 0x200D 0x20001), answered (some 0) (Value zeroResult) []) ∷
+          (finish us table 0 (some (message 0x102 0x31 0x20001)), answered none lent []) ∷
+          (bring us table (message 0x102 0x1F469 0x20001), answered (some 0) (Value zeroResult) []) ∷
+          (finish us table 0 none, answered none lent (keyEvent code.Digit1 (character (0xF0 ∷ 0x9F ∷ 0x91 ∷ 0xA8 ∷ 0xF0 ∷ 0x9F ∷ 0x8F ∷ 0xBB ∷ 0xE2 ∷ 0x80 ∷ 0x8D ∷ 0xF0 ∷ 0x9F ∷ 0x91 ∷ 0xA9 ∷ [])) (some (0xF0 ∷ 0x9F ∷ 0x91 ∷ 0xA8 ∷ 0xF0 ∷ 0x9F ∷ 0x8F ∷ 0xBB ∷ 0xE2 ∷ 0x80 ∷ 0x8D ∷ 0xF0 ∷ 0x9F ∷ 0x91 ∷ 0xA9 ∷ [])) at.Standard Pressed false false (some (0xF0 ∷ 0x9F ∷ 0x91 ∷ 0xA8 ∷ 0xF0 ∷ 0x9F ∷ 0x8F ∷ 0xBB ∷ 0xE2 ∷ 0x80 ∷ 0x8D ∷ 0xF0 ∷ 0x9F ∷ 0x91 ∷ 0xA9 ∷ [])) (character (0x31 ∷ [])) ∷ [])) ∷
+          [];
+    }
+
+-- with two ZWJ between them, or with a letter before the one, they are not: GB11's Extend* holds no ZWJ
+abbrev pub two-joiners : Example
+two-joiners =
+    record {
+      start = freshSession;
+      calls =
+          (bring us table (message 0x100 0x31 0x20001), answered (some 0) (Value zeroResult) []) ∷
+          (finish us table 0 (some (message 0x102 0x31 0x20001)), answered none lent []) ∷
+          (bring us table (message 0x102 0x1F468 0x20001), answered (some 0) (Value zeroResult) []) ∷
+          (finish us table 0 (some (message 0x102 0x31 0x20001)), answered none lent []) ∷
+          (bring us table (message 0x102 0x200D 0x20001), answered (some 0) (Value zeroResult) []) ∷
+          (finish us table 0 (some (message 0x102 0x31 0x20001)), answered none lent []) ∷
+          (bring us table (message 0x102 0x200D 0x20001), answered (some 0) (Value zeroResult) []) ∷
+          (finish us table 0 (some (message 0x102 0x31 0x20001)), answered none lent []) ∷
+          (bring us table (message 0x102 0x1F469 0x20001), answered (some 0) (Value zeroResult) []) ∷
+          (finish us table 0 none, answered none lent (keyEvent code.Digit1 (character (0x31 ∷ [])) (some (0xF0 ∷ 0x9F ∷ 0x91 ∷ 0xA8 ∷ 0xE2 ∷ 0x80 ∷ 0x8D ∷ 0xE2 ∷ 0x80 ∷ 0x8D ∷ 0xF0 ∷ 0x9F ∷ 0x91 ∷ 0xA9 ∷ [])) at.Standard Pressed false false (some (0xF0 ∷ 0x9F ∷ 0x91 ∷ 0xA8 ∷ 0xE2 ∷ 0x80 ∷ 0x8D ∷ 0xE2 ∷ 0x80 ∷ 0x8D ∷ 0xF0 ∷ 0x9F ∷ 0x91 ∷ 0xA9 ∷ [])) (character (0x31 ∷ [])) ∷ [])) ∷
+          (bring us table (message 0x100 0x31 0x20001), answered (some 0) (Value zeroResult) []) ∷
+          (finish us table 0 (some (message 0x102 0x31 0x20001)), answered none lent []) ∷
+          (bring us table (message 0x102 0x61 0x20001), answered (some 0) (Value zeroResult) []) ∷
+          (finish us table 0 (some (message 0x102 0x31 0x20001)), answered none lent []) ∷
+          (bring us table (message 0x102 0x200D 0x20001), answered (some 0) (Value zeroResult) []) ∷
+          (finish us table 0 (some (message 0x102 0x31 0x20001)), answered none lent []) ∷
+          (bring us table (message 0x102 0x1F469 0x20001), answered (some 0) (Value zeroResult) []) ∷
+          (finish us table 0 none, answered none lent (keyEvent code.Digit1 (character (0x31 ∷ [])) (some (0x61 ∷ 0xE2 ∷ 0x80 ∷ 0x8D ∷ 0xF0 ∷ 0x9F ∷ 0x91 ∷ 0xA9 ∷ [])) at.Standard Pressed false false (some (0x61 ∷ 0xE2 ∷ 0x80 ∷ 0x8D ∷ 0xF0 ∷ 0x9F ∷ 0x91 ∷ 0xA9 ∷ [])) (character (0x31 ∷ [])) ∷ [])) ∷
+          [];
+    }
+
+-- two regional indicators are one piece, one and a half flags are two (GB12), and so is a flag behind a letter (GB13)
+abbrev pub flags : Example
+flags =
+    record {
+      start = freshSession;
+      calls =
+          (bring us table (message 0x100 0x31 0x20001), answered (some 0) (Value zeroResult) []) ∷
+          (finish us table 0 (some (message 0x102 0x31 0x20001)), answered none lent []) ∷
+          (bring us table (message 0x102 0x1F1E9 0x20001), answered (some 0) (Value zeroResult) []) ∷
+          (finish us table 0 (some (message 0x102 0x31 0x20001)), answered none lent []) ∷
+          (bring us table (message 0x102 0x1F1EA 0x20001), answered (some 0) (Value zeroResult) []) ∷
+          (finish us table 0 none, answered none lent (keyEvent code.Digit1 (character (0xF0 ∷ 0x9F ∷ 0x87 ∷ 0xA9 ∷ 0xF0 ∷ 0x9F ∷ 0x87 ∷ 0xAA ∷ [])) (some (0xF0 ∷ 0x9F ∷ 0x87 ∷ 0xA9 ∷ 0xF0 ∷ 0x9F ∷ 0x87 ∷ 0xAA ∷ [])) at.Standard Pressed false false (some (0xF0 ∷ 0x9F ∷ 0x87 ∷ 0xA9 ∷ 0xF0 ∷ 0x9F ∷ 0x87 ∷ 0xAA ∷ [])) (character (0x31 ∷ [])) ∷ [])) ∷
+          (bring us table (message 0x100 0x31 0x20001), answered (some 0) (Value zeroResult) []) ∷
+          (finish us table 0 (some (message 0x102 0x31 0x20001)), answered none lent []) ∷
+          (bring us table (message 0x102 0x1F1E9 0x20001), answered (some 0) (Value zeroResult) []) ∷
+          (finish us table 0 (some (message 0x102 0x31 0x20001)), answered none lent []) ∷
+          (bring us table (message 0x102 0x1F1EA 0x20001), answered (some 0) (Value zeroResult) []) ∷
+          (finish us table 0 (some (message 0x102 0x31 0x20001)), answered none lent []) ∷
+          (bring us table (message 0x102 0x1F1E9 0x20001), answered (some 0) (Value zeroResult) []) ∷
+          (finish us table 0 none, answered none lent (keyEvent code.Digit1 (character (0x31 ∷ [])) (some (0xF0 ∷ 0x9F ∷ 0x87 ∷ 0xA9 ∷ 0xF0 ∷ 0x9F ∷ 0x87 ∷ 0xAA ∷ 0xF0 ∷ 0x9F ∷ 0x87 ∷ 0xA9 ∷ [])) at.Standard Pressed false false (some (0xF0 ∷ 0x9F ∷ 0x87 ∷ 0xA9 ∷ 0xF0 ∷ 0x9F ∷ 0x87 ∷ 0xAA ∷ 0xF0 ∷ 0x9F ∷ 0x87 ∷ 0xA9 ∷ [])) (character (0x31 ∷ [])) ∷ [])) ∷
+          (bring us table (message 0x100 0x31 0x20001), answered (some 0) (Value zeroResult) []) ∷
+          (finish us table 0 (some (message 0x102 0x31 0x20001)), answered none lent []) ∷
+          (bring us table (message 0x102 0x61 0x20001), answered (some 0) (Value zeroResult) []) ∷
+          (finish us table 0 (some (message 0x102 0x31 0x20001)), answered none lent []) ∷
+          (bring us table (message 0x102 0x1F1E9 0x20001), answered (some 0) (Value zeroResult) []) ∷
+          (finish us table 0 (some (message 0x102 0x31 0x20001)), answered none lent []) ∷
+          (bring us table (message 0x102 0x1F1EA 0x20001), answered (some 0) (Value zeroResult) []) ∷
+          (finish us table 0 none, answered none lent (keyEvent code.Digit1 (character (0x31 ∷ [])) (some (0x61 ∷ 0xF0 ∷ 0x9F ∷ 0x87 ∷ 0xA9 ∷ 0xF0 ∷ 0x9F ∷ 0x87 ∷ 0xAA ∷ [])) at.Standard Pressed false false (some (0x61 ∷ 0xF0 ∷ 0x9F ∷ 0x87 ∷ 0xA9 ∷ 0xF0 ∷ 0x9F ∷ 0x87 ∷ 0xAA ∷ [])) (character (0x31 ∷ [])) ∷ [])) ∷
+          [];
+    }
+
+-- a Hangul syllable in three parts is one piece (GB6 to GB8), one with its vowel last is two
+abbrev pub syllables : Example
+syllables =
+    record {
+      start = freshSession;
+      calls =
+          (bring us table (message 0x100 0x31 0x20001), answered (some 0) (Value zeroResult) []) ∷
+          (finish us table 0 (some (message 0x102 0x31 0x20001)), answered none lent []) ∷
+          (bring us table (message 0x102 0x1100 0x20001), answered (some 0) (Value zeroResult) []) ∷
+          (finish us table 0 (some (message 0x102 0x31 0x20001)), answered none lent []) ∷
+          (bring us table (message 0x102 0x1161 0x20001), answered (some 0) (Value zeroResult) []) ∷
+          (finish us table 0 (some (message 0x102 0x31 0x20001)), answered none lent []) ∷
+          (bring us table (message 0x102 0x11A8 0x20001), answered (some 0) (Value zeroResult) []) ∷
+          (finish us table 0 none, answered none lent (keyEvent code.Digit1 (character (0xE1 ∷ 0x84 ∷ 0x80 ∷ 0xE1 ∷ 0x85 ∷ 0xA1 ∷ 0xE1 ∷ 0x86 ∷ 0xA8 ∷ [])) (some (0xE1 ∷ 0x84 ∷ 0x80 ∷ 0xE1 ∷ 0x85 ∷ 0xA1 ∷ 0xE1 ∷ 0x86 ∷ 0xA8 ∷ [])) at.Standard Pressed false false (some (0xE1 ∷ 0x84 ∷ 0x80 ∷ 0xE1 ∷ 0x85 ∷ 0xA1 ∷ 0xE1 ∷ 0x86 ∷ 0xA8 ∷ [])) (character (0x31 ∷ [])) ∷ [])) ∷
+          (bring us table (message 0x100 0x31 0x20001), answered (some 0) (Value zeroResult) []) ∷
+          (finish us table 0 (some (message 0x102 0x31 0x20001)), answered none lent []) ∷
+          (bring us table (message 0x102 0xAC00 0x20001), answered (some 0) (Value zeroResult) []) ∷
+          (finish us table 0 (some (message 0x102 0x31 0x20001)), answered none lent []) ∷
+          (bring us table (message 0x102 0x11A8 0x20001), answered (some 0) (Value zeroResult) []) ∷
+          (finish us table 0 none, answered none lent (keyEvent code.Digit1 (character (0xEA ∷ 0xB0 ∷ 0x80 ∷ 0xE1 ∷ 0x86 ∷ 0xA8 ∷ [])) (some (0xEA ∷ 0xB0 ∷ 0x80 ∷ 0xE1 ∷ 0x86 ∷ 0xA8 ∷ [])) at.Standard Pressed false false (some (0xEA ∷ 0xB0 ∷ 0x80 ∷ 0xE1 ∷ 0x86 ∷ 0xA8 ∷ [])) (character (0x31 ∷ [])) ∷ [])) ∷
+          (bring us table (message 0x100 0x31 0x20001), answered (some 0) (Value zeroResult) []) ∷
+          (finish us table 0 (some (message 0x102 0x31 0x20001)), answered none lent []) ∷
+          (bring us table (message 0x102 0x1100 0x20001), answered (some 0) (Value zeroResult) []) ∷
+          (finish us table 0 (some (message 0x102 0x31 0x20001)), answered none lent []) ∷
+          (bring us table (message 0x102 0x11A8 0x20001), answered (some 0) (Value zeroResult) []) ∷
+          (finish us table 0 (some (message 0x102 0x31 0x20001)), answered none lent []) ∷
+          (bring us table (message 0x102 0x1161 0x20001), answered (some 0) (Value zeroResult) []) ∷
+          (finish us table 0 none, answered none lent (keyEvent code.Digit1 (character (0x31 ∷ [])) (some (0xE1 ∷ 0x84 ∷ 0x80 ∷ 0xE1 ∷ 0x86 ∷ 0xA8 ∷ 0xE1 ∷ 0x85 ∷ 0xA1 ∷ [])) at.Standard Pressed false false (some (0xE1 ∷ 0x84 ∷ 0x80 ∷ 0xE1 ∷ 0x86 ∷ 0xA8 ∷ 0xE1 ∷ 0x85 ∷ 0xA1 ∷ [])) (character (0x31 ∷ [])) ∷ [])) ∷
+          [];
+    }
+
+-- a consonant behind 094D is a piece of its own: GB9c is no part of the rules
+abbrev pub conjunct : Example
+conjunct =
+    record {
+      start = freshSession;
+      calls =
+          (bring us table (message 0x100 0x31 0x20001), answered (some 0) (Value zeroResult) []) ∷
+          (finish us table 0 (some (message 0x102 0x31 0x20001)), answered none lent []) ∷
+          (bring us table (message 0x102 0x915 0x20001), answered (some 0) (Value zeroResult) []) ∷
+          (finish us table 0 (some (message 0x102 0x31 0x20001)), answered none lent []) ∷
+          (bring us table (message 0x102 0x94D 0x20001), answered (some 0) (Value zeroResult) []) ∷
+          (finish us table 0 (some (message 0x102 0x31 0x20001)), answered none lent []) ∷
+          (bring us table (message 0x102 0x937 0x20001), answered (some 0) (Value zeroResult) []) ∷
+          (finish us table 0 none, answered none lent (keyEvent code.Digit1 (character (0x31 ∷ [])) (some (0xE0 ∷ 0xA4 ∷ 0x95 ∷ 0xE0 ∷ 0xA5 ∷ 0x8D ∷ 0xE0 ∷ 0xA4 ∷ 0xB7 ∷ [])) at.Standard Pressed false false (some (0xE0 ∷ 0xA4 ∷ 0x95 ∷ 0xE0 ∷ 0xA5 ∷ 0x8D ∷ 0xE0 ∷ 0xA4 ∷ 0xB7 ∷ [])) (character (0x31 ∷ [])) ∷ [])) ∷
+          [];
+    }
+
+-- a letter and a SpacingMark are one piece (GB9a), a Prepend and a letter too (GB9b), but not with LF (GB5)
+abbrev pub around-a-letter : Example
+around-a-letter =
+    record {
+      start = freshSession;
+      calls =
+          (bring us table (message 0x100 0x31 0x20001), answered (some 0) (Value zeroResult) []) ∷
+          (finish us table 0 (some (message 0x102 0x31 0x20001)), answered none lent []) ∷
+          (bring us table (message 0x102 0x915 0x20001), answered (some 0) (Value zeroResult) []) ∷
+          (finish us table 0 (some (message 0x102 0x31 0x20001)), answered none lent []) ∷
+          (bring us table (message 0x102 0x903 0x20001), answered (some 0) (Value zeroResult) []) ∷
+          (finish us table 0 none, answered none lent (keyEvent code.Digit1 (character (0xE0 ∷ 0xA4 ∷ 0x95 ∷ 0xE0 ∷ 0xA4 ∷ 0x83 ∷ [])) (some (0xE0 ∷ 0xA4 ∷ 0x95 ∷ 0xE0 ∷ 0xA4 ∷ 0x83 ∷ [])) at.Standard Pressed false false (some (0xE0 ∷ 0xA4 ∷ 0x95 ∷ 0xE0 ∷ 0xA4 ∷ 0x83 ∷ [])) (character (0x31 ∷ [])) ∷ [])) ∷
+          (bring us table (message 0x100 0x31 0x20001), answered (some 0) (Value zeroResult) []) ∷
+          (finish us table 0 (some (message 0x102 0x31 0x20001)), answered none lent []) ∷
+          (bring us table (message 0x102 0x600 0x20001), answered (some 0) (Value zeroResult) []) ∷
+          (finish us table 0 (some (message 0x102 0x31 0x20001)), answered none lent []) ∷
+          (bring us table (message 0x102 0x31 0x20001), answered (some 0) (Value zeroResult) []) ∷
+          (finish us table 0 none, answered none lent (keyEvent code.Digit1 (character (0xD8 ∷ 0x80 ∷ 0x31 ∷ [])) (some (0xD8 ∷ 0x80 ∷ 0x31 ∷ [])) at.Standard Pressed false false (some (0xD8 ∷ 0x80 ∷ 0x31 ∷ [])) (character (0x31 ∷ [])) ∷ [])) ∷
+          (bring us table (message 0x100 0x31 0x20001), answered (some 0) (Value zeroResult) []) ∷
+          (finish us table 0 (some (message 0x102 0x31 0x20001)), answered none lent []) ∷
+          (bring us table (message 0x102 0x600 0x20001), answered (some 0) (Value zeroResult) []) ∷
+          (finish us table 0 (some (message 0x102 0x31 0x20001)), answered none lent []) ∷
+          (bring us table (message 0x102 0x0A 0x20001), answered (some 0) (Value zeroResult) []) ∷
+          (finish us table 0 none, answered none lent (keyEvent code.Digit1 (character (0x31 ∷ [])) (some (0xD8 ∷ 0x80 ∷ 0x0A ∷ [])) at.Standard Pressed false false (some (0xD8 ∷ 0x80 ∷ 0x0A ∷ [])) (character (0x31 ∷ [])) ∷ [])) ∷
+          [];
+    }
+
+-- the table that counts is that of the finish that completes the last character, not those before it
+abbrev pub table-of-the-last-finish : Example
+table-of-the-last-finish =
+    record {
+      start = freshSession;
+      calls =
+          (bring us table (message 0x100 0x31 0x20001), answered (some 0) (Value zeroResult) []) ∷
+          (finish us table 0 (some (message 0x102 0x31 0x20001)), answered none lent []) ∷
+          (bring us table (message 0x102 0x0D 0x20001), answered (some 0) (Value zeroResult) []) ∷
+          (finish us table 0 (some (message 0x102 0x31 0x20001)), answered none lent []) ∷
+          (bring us table (message 0x102 0x0A 0x20001), answered (some 0) (Value zeroResult) []) ∷
+          (finish us no-ranges 0 none, answered none lent (keyEvent code.Digit1 (character (0x31 ∷ [])) (some (0x0D ∷ 0x0A ∷ [])) at.Standard Pressed false false (some (0x0D ∷ 0x0A ∷ [])) (character (0x31 ∷ [])) ∷ [])) ∷
+          (bring us no-ranges (message 0x100 0x31 0x20001), answered (some 0) (Value zeroResult) []) ∷
+          (finish us no-ranges 0 (some (message 0x102 0x31 0x20001)), answered none lent []) ∷
+          (bring us no-ranges (message 0x102 0x0D 0x20001), answered (some 0) (Value zeroResult) []) ∷
+          (finish us no-ranges 0 (some (message 0x102 0x31 0x20001)), answered none lent []) ∷
+          (bring us no-ranges (message 0x102 0x0A 0x20001), answered (some 0) (Value zeroResult) []) ∷
+          (finish us table 0 none, answered none lent (keyEvent code.Digit1 (character (0x0D ∷ 0x0A ∷ [])) (some (0x0D ∷ 0x0A ∷ [])) at.Standard Pressed false false (some (0x0D ∷ 0x0A ∷ [])) (character (0x31 ∷ [])) ∷ [])) ∷
           [];
     }
 
@@ -544,11 +788,11 @@ wide-kind =
     record {
       start = freshSession;
       calls =
-          (bring us (message 0x100 0x31 0x20001), answered (some 0) (Value zeroResult) []) ∷
-          (finish us 0 (some (message 0x10100 0x31 0x20001)), answered none lent []) ∷
-          (bring us (message 0x102 0x31 0x20001), answered (some 0) (Value zeroResult) []) ∷
-          (finish us 0 (some (message 0x10102 0x31 0x20001)), answered none lent (keyEvent code.Digit1 (character (0x31 ∷ [])) (some (0x31 ∷ [])) at.Standard Pressed false false (some (0x31 ∷ [])) (character (0x31 ∷ [])) ∷ [])) ∷
-          (bring us (message 0x10100 0x31 0x20001), answered none lent []) ∷
+          (bring us table (message 0x100 0x31 0x20001), answered (some 0) (Value zeroResult) []) ∷
+          (finish us table 0 (some (message 0x10100 0x31 0x20001)), answered none lent []) ∷
+          (bring us table (message 0x102 0x31 0x20001), answered (some 0) (Value zeroResult) []) ∷
+          (finish us table 0 (some (message 0x10102 0x31 0x20001)), answered none lent (keyEvent code.Digit1 (character (0x31 ∷ [])) (some (0x31 ∷ [])) at.Standard Pressed false false (some (0x31 ∷ [])) (character (0x31 ∷ [])) ∷ [])) ∷
+          (bring us table (message 0x10100 0x31 0x20001), answered none lent []) ∷
           [];
     }
 
@@ -558,11 +802,11 @@ close-window =
     record {
       start = freshSession;
       calls =
-          (bring us (message 0x104 0x73 0x3E0001), answered none lent []) ∷
-          (bring us (message 0x104 0x10073 0x403E0001), answered (some 0) DefWindowProc []) ∷
-          (finish us 0 none, answered none lent (keyEvent code.F4 (named key-F4) none at.Standard Pressed true false none (named key-F4) ∷ [])) ∷
-          (bring us (message 0x100 0x73 0x3E0001), answered (some 0) (Value zeroResult) []) ∷
-          (finish us 0 none, answered none lent (keyEvent code.F4 (named key-F4) none at.Standard Pressed false false none (named key-F4) ∷ [])) ∷
+          (bring us table (message 0x104 0x73 0x3E0001), answered none lent []) ∷
+          (bring us table (message 0x104 0x10073 0x403E0001), answered (some 0) DefWindowProc []) ∷
+          (finish us table 0 none, answered none lent (keyEvent code.F4 (named key-F4) none at.Standard Pressed true false none (named key-F4) ∷ [])) ∷
+          (bring us table (message 0x100 0x73 0x3E0001), answered (some 0) (Value zeroResult) []) ∷
+          (finish us table 0 none, answered none lent (keyEvent code.F4 (named key-F4) none at.Standard Pressed false false none (named key-F4) ∷ [])) ∷
           [];
     }
 
@@ -572,8 +816,8 @@ press-by-finish =
     record {
       start = freshSession;
       calls =
-          (bring odd (message 0x100 0xB3 0x01), answered (some 0) (Value zeroResult) []) ∷
-          (finish moved 0 none, answered none lent (keyEvent code.MediaStop (named key-MediaPlayPause) none at.Numpad Pressed false false none (named key-MediaPlayPause) ∷ [])) ∷
+          (bring odd table (message 0x100 0xB3 0x01), answered (some 0) (Value zeroResult) []) ∷
+          (finish moved table 0 none, answered none lent (keyEvent code.MediaStop (named key-MediaPlayPause) none at.Numpad Pressed false false none (named key-MediaPlayPause) ∷ [])) ∷
           [];
     }
 
@@ -583,8 +827,8 @@ release-by-open =
     record {
       start = freshSession;
       calls =
-          (bring us (message 0x101 0x31 0xC0000001), answered (some 0) (Value zeroResult) []) ∷
-          (finish moved 0 none, answered none lent (keyEvent code.Digit1 (character (0x31 ∷ [])) none at.Standard Released false false none (character (0x31 ∷ [])) ∷ [])) ∷
+          (bring us table (message 0x101 0x31 0xC0000001), answered (some 0) (Value zeroResult) []) ∷
+          (finish moved table 0 none, answered none lent (keyEvent code.Digit1 (character (0x31 ∷ [])) none at.Standard Released false false none (character (0x31 ∷ [])) ∷ [])) ∷
           [];
     }
 
@@ -594,10 +838,10 @@ release-fake-by-finish =
     record {
       start = freshSession;
       calls =
-          (bring us (message 0x101 0x11 0xC01D0001), answered (some 0) (Value zeroResult) []) ∷
-          (finish german 0 (some (message 0x101 0x12 0x1380001)), answered none lent []) ∷
-          (bring german (message 0x101 0x11 0xC01D0001), answered (some 0) (Value zeroResult) []) ∷
-          (finish us 0 (some (message 0x101 0x12 0x1380001)), answered none lent (keyEvent code.ControlLeft (named key-Control) none at.Left Released false false none (named key-Control) ∷ [])) ∷
+          (bring us table (message 0x101 0x11 0xC01D0001), answered (some 0) (Value zeroResult) []) ∷
+          (finish german table 0 (some (message 0x101 0x12 0x1380001)), answered none lent []) ∷
+          (bring german table (message 0x101 0x11 0xC01D0001), answered (some 0) (Value zeroResult) []) ∷
+          (finish us table 0 (some (message 0x101 0x12 0x1380001)), answered none lent (keyEvent code.ControlLeft (named key-Control) none at.Left Released false false none (named key-Control) ∷ [])) ∷
           [];
     }
 
@@ -607,11 +851,11 @@ release-fake-any-kind =
     record {
       start = freshSession;
       calls =
-          (bring german (message 0x101 0x11 0xC01D0001), answered (some 0) (Value zeroResult) []) ∷
-          (finish german 0 (some (message 0x00 0x12 0x1380001)), answered none lent []) ∷
-          (bring german (message 0x100 0x11 0x1D0001), answered (some 0) (Value zeroResult) []) ∷
-          (finish german 0 (some (message 0x102 0x12 0x1380001)), answered none lent []) ∷
-          (bring german (message 0x103 0xB4 0xD0001), answered none (Value zeroResult) (keyEvent code.ControlLeft (named key-Control) none at.Left Pressed false false none (named key-Control) ∷ [])) ∷
+          (bring german table (message 0x101 0x11 0xC01D0001), answered (some 0) (Value zeroResult) []) ∷
+          (finish german table 0 (some (message 0x00 0x12 0x1380001)), answered none lent []) ∷
+          (bring german table (message 0x100 0x11 0x1D0001), answered (some 0) (Value zeroResult) []) ∷
+          (finish german table 0 (some (message 0x102 0x12 0x1380001)), answered none lent []) ∷
+          (bring german table (message 0x103 0xB4 0xD0001), answered none (Value zeroResult) (keyEvent code.ControlLeft (named key-Control) none at.Left Pressed false false none (named key-Control) ∷ [])) ∷
           [];
     }
 
@@ -621,8 +865,8 @@ fake-by-lparam =
     record {
       start = freshSession;
       calls =
-          (bring german (message 0x101 0x11 0xC01D0001), answered (some 0) (Value zeroResult) []) ∷
-          (finish german 0 (some (message 0x101 0xA5 0xC1000001)), answered none lent (keyEvent code.ControlLeft (named key-Control) none at.Left Released false false none (named key-Control) ∷ [])) ∷
+          (bring german table (message 0x101 0x11 0xC01D0001), answered (some 0) (Value zeroResult) []) ∷
+          (finish german table 0 (some (message 0x101 0xA5 0xC1000001)), answered none lent (keyEvent code.ControlLeft (named key-Control) none at.Left Released false false none (named key-Control) ∷ [])) ∷
           [];
     }
 
@@ -632,10 +876,10 @@ fake-control-alone =
     record {
       start = freshSession;
       calls =
-          (bring german (message 0x100 0x0D 0x1C0001), answered (some 0) (Value zeroResult) []) ∷
-          (finish german 0 (some (message 0x100 0x12 0x1380001)), answered none lent (keyEvent code.Enter (named key-Enter) none at.Standard Pressed false false none (named key-Enter) ∷ [])) ∷
-          (bring german (message 0x101 0x0D 0xC01C0001), answered (some 0) (Value zeroResult) []) ∷
-          (finish german 0 (some (message 0x100 0x12 0x1380001)), answered none lent (keyEvent code.Enter (named key-Enter) none at.Standard Released false false none (named key-Enter) ∷ [])) ∷
+          (bring german table (message 0x100 0x0D 0x1C0001), answered (some 0) (Value zeroResult) []) ∷
+          (finish german table 0 (some (message 0x100 0x12 0x1380001)), answered none lent (keyEvent code.Enter (named key-Enter) none at.Standard Pressed false false none (named key-Enter) ∷ [])) ∷
+          (bring german table (message 0x101 0x0D 0xC01C0001), answered (some 0) (Value zeroResult) []) ∷
+          (finish german table 0 (some (message 0x100 0x12 0x1380001)), answered none lent (keyEvent code.Enter (named key-Enter) none at.Standard Released false false none (named key-Enter) ∷ [])) ∷
           [];
     }
 
@@ -645,12 +889,12 @@ nested-press-completed =
     record {
       start = freshSession;
       calls =
-          (bring us (message 0x100 0x31 0x20001), answered (some 0) (Value zeroResult) []) ∷
-          (finish us 0 (some (message 0x102 0x31 0x20001)), answered none lent []) ∷
-          (bring us (message 0x102 0x61 0x20001), answered (some 0) (Value zeroResult) []) ∷
-          (bring us (message 0x100 0x45 0x120001), answered (some 1) (Value zeroResult) []) ∷
-          (finish us 1 (some (message 0x102 0x31 0x20001)), answered none lent []) ∷
-          (finish us 0 none, answered none lent (keyEvent code.KeyE (unidentified (native.Windows 0x12)) none at.Standard Pressed false false none (character (0x65 ∷ [])) ∷ [])) ∷
+          (bring us table (message 0x100 0x31 0x20001), answered (some 0) (Value zeroResult) []) ∷
+          (finish us table 0 (some (message 0x102 0x31 0x20001)), answered none lent []) ∷
+          (bring us table (message 0x102 0x61 0x20001), answered (some 0) (Value zeroResult) []) ∷
+          (bring us table (message 0x100 0x45 0x120001), answered (some 1) (Value zeroResult) []) ∷
+          (finish us table 1 (some (message 0x102 0x31 0x20001)), answered none lent []) ∷
+          (finish us table 0 none, answered none lent (keyEvent code.KeyE (unidentified (native.Windows 0x12)) none at.Standard Pressed false false none (character (0x65 ∷ [])) ∷ [])) ∷
           [];
     }
 
@@ -660,11 +904,11 @@ nested-dead-character =
     record {
       start = freshSession;
       calls =
-          (bring us (message 0x100 0x31 0x20001), answered (some 0) (Value zeroResult) []) ∷
-          (finish us 0 (some (message 0x102 0x31 0x20001)), answered none lent []) ∷
-          (bring us (message 0x102 0x61 0x20001), answered (some 0) (Value zeroResult) []) ∷
-          (bring us (message 0x103 0xB4 0xD0001), answered none (Value zeroResult) []) ∷
-          (finish us 0 none, answered none lent (keyEvent code.Digit1 (unidentified (native.Windows 0x02)) none at.Standard Pressed false false (some (0x61 ∷ [])) (character (0x31 ∷ [])) ∷ [])) ∷
+          (bring us table (message 0x100 0x31 0x20001), answered (some 0) (Value zeroResult) []) ∷
+          (finish us table 0 (some (message 0x102 0x31 0x20001)), answered none lent []) ∷
+          (bring us table (message 0x102 0x61 0x20001), answered (some 0) (Value zeroResult) []) ∷
+          (bring us table (message 0x103 0xB4 0xD0001), answered none (Value zeroResult) []) ∷
+          (finish us table 0 none, answered none lent (keyEvent code.Digit1 (unidentified (native.Windows 0x02)) none at.Standard Pressed false false (some (0x61 ∷ [])) (character (0x31 ∷ [])) ∷ [])) ∷
           [];
     }
 
@@ -674,13 +918,13 @@ outer-press-forgets =
     record {
       start = freshSession;
       calls =
-          (bring us (message 0x100 0x31 0x20001), answered (some 0) (Value zeroResult) []) ∷
-          (bring us (message 0x100 0x45 0x120001), answered (some 1) (Value zeroResult) []) ∷
-          (finish us 1 (some (message 0x102 0x31 0x20001)), answered none lent []) ∷
-          (bring us (message 0x102 0x65 0x20001), answered (some 2) (Value zeroResult) []) ∷
-          (finish us 2 (some (message 0x102 0x31 0x20001)), answered none lent []) ∷
-          (finish us 0 none, answered none lent (keyEvent code.Digit1 (unidentified (native.Windows 0x02)) none at.Standard Pressed false false none (character (0x31 ∷ [])) ∷ [])) ∷
-          (bring us (message 0x102 0x65 0x20001), answered none lent []) ∷
+          (bring us table (message 0x100 0x31 0x20001), answered (some 0) (Value zeroResult) []) ∷
+          (bring us table (message 0x100 0x45 0x120001), answered (some 1) (Value zeroResult) []) ∷
+          (finish us table 1 (some (message 0x102 0x31 0x20001)), answered none lent []) ∷
+          (bring us table (message 0x102 0x65 0x20001), answered (some 2) (Value zeroResult) []) ∷
+          (finish us table 2 (some (message 0x102 0x31 0x20001)), answered none lent []) ∷
+          (finish us table 0 none, answered none lent (keyEvent code.Digit1 (unidentified (native.Windows 0x02)) none at.Standard Pressed false false none (character (0x31 ∷ [])) ∷ [])) ∷
+          (bring us table (message 0x102 0x65 0x20001), answered none lent []) ∷
           [];
     }
 
@@ -690,11 +934,11 @@ fake-press-forgets =
     record {
       start = freshSession;
       calls =
-          (bring german (message 0x100 0x31 0x20001), answered (some 0) (Value zeroResult) []) ∷
-          (finish german 0 (some (message 0x102 0x31 0x20001)), answered none lent []) ∷
-          (bring german (message 0x100 0x11 0x1D0001), answered (some 0) (Value zeroResult) []) ∷
-          (finish german 0 (some (message 0x104 0x12 0x1380001)), answered none lent []) ∷
-          (bring german (message 0x102 0x31 0x20001), answered none lent []) ∷
+          (bring german table (message 0x100 0x31 0x20001), answered (some 0) (Value zeroResult) []) ∷
+          (finish german table 0 (some (message 0x102 0x31 0x20001)), answered none lent []) ∷
+          (bring german table (message 0x100 0x11 0x1D0001), answered (some 0) (Value zeroResult) []) ∷
+          (finish german table 0 (some (message 0x104 0x12 0x1380001)), answered none lent []) ∷
+          (bring german table (message 0x102 0x31 0x20001), answered none lent []) ∷
           [];
     }
 
@@ -704,12 +948,12 @@ dropped-first =
     record {
       start = freshSession;
       calls =
-          (bring german (message 0x100 0x11 0x1D0001), answered (some 0) (Value zeroResult) []) ∷
-          (bring german (message 0x101 0x31 0xC0020001), answered (some 1) (Value zeroResult) []) ∷
-          (finish german 1 none, answered none lent []) ∷
-          (bring german (message 0x100 0x0D 0x1C0001), answered (some 2) (Value zeroResult) []) ∷
-          (finish german 2 none, answered none lent []) ∷
-          (finish german 0 (some (message 0x100 0x12 0x1380001)), answered none lent (keyEvent code.Digit1 (character (0x31 ∷ [])) none at.Standard Released false false none (character (0x31 ∷ [])) ∷ keyEvent code.Enter (named key-Enter) none at.Standard Pressed false false none (named key-Enter) ∷ [])) ∷
+          (bring german table (message 0x100 0x11 0x1D0001), answered (some 0) (Value zeroResult) []) ∷
+          (bring german table (message 0x101 0x31 0xC0020001), answered (some 1) (Value zeroResult) []) ∷
+          (finish german table 1 none, answered none lent []) ∷
+          (bring german table (message 0x100 0x0D 0x1C0001), answered (some 2) (Value zeroResult) []) ∷
+          (finish german table 2 none, answered none lent []) ∷
+          (finish german table 0 (some (message 0x100 0x12 0x1380001)), answered none lent (keyEvent code.Digit1 (character (0x31 ∷ [])) none at.Standard Released false false none (character (0x31 ∷ [])) ∷ keyEvent code.Enter (named key-Enter) none at.Standard Pressed false false none (named key-Enter) ∷ [])) ∷
           [];
     }
 
@@ -719,12 +963,12 @@ nested-order =
     record {
       start = freshSession;
       calls =
-          (bring us (message 0x101 0x0D 0xC01C0001), answered (some 0) (Value zeroResult) []) ∷
-          (bring us (message 0x101 0x31 0xC0020001), answered (some 1) (Value zeroResult) []) ∷
-          (bring us (message 0x101 0x45 0xC0120001), answered (some 2) (Value zeroResult) []) ∷
-          (finish us 2 none, answered none lent []) ∷
-          (finish us 1 none, answered none lent []) ∷
-          (finish us 0 none, answered none lent (keyEvent code.Enter (named key-Enter) none at.Standard Released false false none (named key-Enter) ∷ keyEvent code.Digit1 (character (0x31 ∷ [])) none at.Standard Released false false none (character (0x31 ∷ [])) ∷ keyEvent code.KeyE (character (0x65 ∷ [])) none at.Standard Released false false none (character (0x65 ∷ [])) ∷ [])) ∷
+          (bring us table (message 0x101 0x0D 0xC01C0001), answered (some 0) (Value zeroResult) []) ∷
+          (bring us table (message 0x101 0x31 0xC0020001), answered (some 1) (Value zeroResult) []) ∷
+          (bring us table (message 0x101 0x45 0xC0120001), answered (some 2) (Value zeroResult) []) ∷
+          (finish us table 2 none, answered none lent []) ∷
+          (finish us table 1 none, answered none lent []) ∷
+          (finish us table 0 none, answered none lent (keyEvent code.Enter (named key-Enter) none at.Standard Released false false none (named key-Enter) ∷ keyEvent code.Digit1 (character (0x31 ∷ [])) none at.Standard Released false false none (character (0x31 ∷ [])) ∷ keyEvent code.KeyE (character (0x65 ∷ [])) none at.Standard Released false false none (character (0x65 ∷ [])) ∷ [])) ∷
           [];
     }
 
@@ -734,14 +978,14 @@ held-through-focus =
     record {
       start = freshSession;
       calls =
-          (bring us (message 0x100 0x31 0x20001), answered (some 0) (Value zeroResult) []) ∷
-          (finish us 0 (some (message 0x102 0x31 0x20001)), answered none lent []) ∷
-          (bring us (message 0x07 0x00 0x00), answered none lent []) ∷
-          (bring us (message 0x101 0x45 0xC0120001), answered (some 0) (Value zeroResult) []) ∷
-          (finish us 0 none, answered none lent (keyEvent code.KeyE (character (0x65 ∷ [])) none at.Standard Released false false none (character (0x65 ∷ [])) ∷ [])) ∷
-          (bring us (message 0x08 0x00 0x00), answered none lent []) ∷
-          (bring us (message 0x102 0x31 0x20001), answered (some 0) (Value zeroResult) []) ∷
-          (finish us 0 none, answered none lent (keyEvent code.Digit1 (character (0x31 ∷ [])) (some (0x31 ∷ [])) at.Standard Pressed false false (some (0x31 ∷ [])) (character (0x31 ∷ [])) ∷ [])) ∷
+          (bring us table (message 0x100 0x31 0x20001), answered (some 0) (Value zeroResult) []) ∷
+          (finish us table 0 (some (message 0x102 0x31 0x20001)), answered none lent []) ∷
+          (bring us table (message 0x07 0x00 0x00), answered none lent []) ∷
+          (bring us table (message 0x101 0x45 0xC0120001), answered (some 0) (Value zeroResult) []) ∷
+          (finish us table 0 none, answered none lent (keyEvent code.KeyE (character (0x65 ∷ [])) none at.Standard Released false false none (character (0x65 ∷ [])) ∷ [])) ∷
+          (bring us table (message 0x08 0x00 0x00), answered none lent []) ∷
+          (bring us table (message 0x102 0x31 0x20001), answered (some 0) (Value zeroResult) []) ∷
+          (finish us table 0 none, answered none lent (keyEvent code.Digit1 (character (0x31 ∷ [])) (some (0x31 ∷ [])) at.Standard Pressed false false (some (0x31 ∷ [])) (character (0x31 ∷ [])) ∷ [])) ∷
           [];
     }
 
@@ -751,11 +995,11 @@ no-token-kept =
     record {
       start = freshSession;
       calls =
-          (bring us (message 0x100 0x31 0x20001), answered (some 0) (Value zeroResult) []) ∷
-          (finish us 0 (some (message 0x102 0x31 0x20001)), answered none lent []) ∷
-          (bring us (message 0x107 0xB4 0xD0001), answered none (Value zeroResult) (keyEvent code.Digit1 (unidentified (native.Windows 0x02)) none at.Standard Pressed false false none (character (0x31 ∷ [])) ∷ [])) ∷
-          (bring us (message 0x101 0x45 0xC0120001), answered (some 0) (Value zeroResult) []) ∷
-          (finish us 0 none, answered none lent (keyEvent code.KeyE (character (0x65 ∷ [])) none at.Standard Released false false none (character (0x65 ∷ [])) ∷ [])) ∷
+          (bring us table (message 0x100 0x31 0x20001), answered (some 0) (Value zeroResult) []) ∷
+          (finish us table 0 (some (message 0x102 0x31 0x20001)), answered none lent []) ∷
+          (bring us table (message 0x107 0xB4 0xD0001), answered none (Value zeroResult) (keyEvent code.Digit1 (unidentified (native.Windows 0x02)) none at.Standard Pressed false false none (character (0x31 ∷ [])) ∷ [])) ∷
+          (bring us table (message 0x101 0x45 0xC0120001), answered (some 0) (Value zeroResult) []) ∷
+          (finish us table 0 none, answered none lent (keyEvent code.KeyE (character (0x65 ∷ [])) none at.Standard Released false false none (character (0x65 ∷ [])) ∷ [])) ∷
           [];
     }
 
@@ -765,9 +1009,29 @@ nothing-held =
     record {
       start = freshSession;
       calls =
-          (bring us (message 0x103 0xB4 0xD0001), refused 5) ∷
-          (bring us (message 0x107 0x00 0x00), refused 5) ∷
-          (bring us (message 0x102 0x31 0x20001), answered none lent []) ∷
+          (bring us table (message 0x103 0xB4 0xD0001), refused 5) ∷
+          (bring us table (message 0x107 0x00 0x00), refused 5) ∷
+          (bring us table (message 0x102 0x31 0x20001), answered none lent []) ∷
+          [];
+    }
+
+-- a table that is none is refused 11, whatever the call is: an open, a finish, an ignored message, a focus change
+abbrev pub table-refused : Example
+table-refused =
+    record {
+      start = freshSession;
+      calls =
+          (bring us no-bytes (message 0x100 0x31 0x20001), refused 11) ∷
+          (bring us table (message 0x100 0x31 0x20001), answered (some 0) (Value zeroResult) []) ∷
+          (finish us touching 0 (some (message 0x102 0x31 0x20001)), refused 11) ∷
+          (finish us class-14 7 none, refused 11) ∷
+          (finish us no-ranges 0 (some (message 0x102 0x31 0x20001)), answered none lent []) ∷
+          (bring us class-14 (message 0x12 0x00 0x00), refused 11) ∷
+          (bring us-busy no-bytes (message 0x07 0x00 0x00), refused 11) ∷
+          (bring us table (message 0x102 0x31 0x20001), answered (some 0) (Value zeroResult) []) ∷
+          (finish us no-bytes 0 none, refused 11) ∷
+          (bring us touching (message 0x103 0xB4 0xD0001), refused 11) ∷
+          (finish us table 0 none, answered none lent (keyEvent code.Digit1 (character (0x31 ∷ [])) (some (0x31 ∷ [])) at.Standard Pressed false false (some (0x31 ∷ [])) (character (0x31 ∷ [])) ∷ [])) ∷
           [];
     }
 
@@ -777,31 +1041,31 @@ eight-open =
     record {
       start = freshSession;
       calls =
-          (bring us (message 0x100 0x31 0x20001), answered (some 0) (Value zeroResult) []) ∷
-          (finish us 0 (some (message 0x102 0x31 0x20001)), answered none lent []) ∷
-          (bring us (message 0x101 0x31 0xC0020001), answered (some 0) (Value zeroResult) []) ∷
-          (bring us (message 0x101 0x31 0xC0020001), answered (some 1) (Value zeroResult) []) ∷
-          (bring us (message 0x101 0x31 0xC0020001), answered (some 2) (Value zeroResult) []) ∷
-          (bring us (message 0x101 0x31 0xC0020001), answered (some 3) (Value zeroResult) []) ∷
-          (bring us (message 0x101 0x31 0xC0020001), answered (some 4) (Value zeroResult) []) ∷
-          (bring us (message 0x101 0x31 0xC0020001), answered (some 5) (Value zeroResult) []) ∷
-          (bring us (message 0x101 0x31 0xC0020001), answered (some 6) (Value zeroResult) []) ∷
-          (bring us (message 0x101 0x31 0xC0020001), answered (some 7) (Value zeroResult) []) ∷
-          (bring us (message 0x102 0x31 0x20001), refused 6) ∷
-          (bring us-control (message 0x07 0x00 0x00), answered none lent []) ∷
-          (bring us (message 0x103 0xB4 0xD0001), answered none (Value zeroResult) []) ∷
-          (bring us (message 0x102 0x31 0x20001), answered none lent []) ∷
-          (bring us (message 0x104 0x73 0x3E0001), answered none lent []) ∷
-          (bring us (message 0x100 0x31 0x20001), refused 6) ∷
-          (bring us (message 0x101 0x31 0xC0020001), refused 6) ∷
-          (finish us 7 none, answered none lent []) ∷
-          (finish us 6 none, answered none lent []) ∷
-          (finish us 5 none, answered none lent []) ∷
-          (finish us 4 none, answered none lent []) ∷
-          (finish us 3 none, answered none lent []) ∷
-          (finish us 2 none, answered none lent []) ∷
-          (finish us 1 none, answered none lent []) ∷
-          (finish us 0 none, answered none lent (times 8 (keyEvent code.Digit1 (character (0x31 ∷ [])) none at.Standard Released false false none (character (0x31 ∷ []))) (keyEvent code.ControlLeft (named key-Control) none at.Left Pressed false true none (named key-Control) ∷ keyEvent code.Digit1 (unidentified (native.Windows 0x02)) none at.Standard Pressed false false none (character (0x31 ∷ [])) ∷ []))) ∷
+          (bring us table (message 0x100 0x31 0x20001), answered (some 0) (Value zeroResult) []) ∷
+          (finish us table 0 (some (message 0x102 0x31 0x20001)), answered none lent []) ∷
+          (bring us table (message 0x101 0x31 0xC0020001), answered (some 0) (Value zeroResult) []) ∷
+          (bring us table (message 0x101 0x31 0xC0020001), answered (some 1) (Value zeroResult) []) ∷
+          (bring us table (message 0x101 0x31 0xC0020001), answered (some 2) (Value zeroResult) []) ∷
+          (bring us table (message 0x101 0x31 0xC0020001), answered (some 3) (Value zeroResult) []) ∷
+          (bring us table (message 0x101 0x31 0xC0020001), answered (some 4) (Value zeroResult) []) ∷
+          (bring us table (message 0x101 0x31 0xC0020001), answered (some 5) (Value zeroResult) []) ∷
+          (bring us table (message 0x101 0x31 0xC0020001), answered (some 6) (Value zeroResult) []) ∷
+          (bring us table (message 0x101 0x31 0xC0020001), answered (some 7) (Value zeroResult) []) ∷
+          (bring us table (message 0x102 0x31 0x20001), refused 6) ∷
+          (bring us-control table (message 0x07 0x00 0x00), answered none lent []) ∷
+          (bring us table (message 0x103 0xB4 0xD0001), answered none (Value zeroResult) []) ∷
+          (bring us table (message 0x102 0x31 0x20001), answered none lent []) ∷
+          (bring us table (message 0x104 0x73 0x3E0001), answered none lent []) ∷
+          (bring us table (message 0x100 0x31 0x20001), refused 6) ∷
+          (bring us table (message 0x101 0x31 0xC0020001), refused 6) ∷
+          (finish us table 7 none, answered none lent []) ∷
+          (finish us table 6 none, answered none lent []) ∷
+          (finish us table 5 none, answered none lent []) ∷
+          (finish us table 4 none, answered none lent []) ∷
+          (finish us table 3 none, answered none lent []) ∷
+          (finish us table 2 none, answered none lent []) ∷
+          (finish us table 1 none, answered none lent []) ∷
+          (finish us table 0 none, answered none lent (times 8 (keyEvent code.Digit1 (character (0x31 ∷ [])) none at.Standard Released false false none (character (0x31 ∷ []))) (keyEvent code.ControlLeft (named key-Control) none at.Left Pressed false true none (named key-Control) ∷ keyEvent code.Digit1 (unidentified (native.Windows 0x02)) none at.Standard Pressed false false none (character (0x31 ∷ [])) ∷ []))) ∷
           [];
     }
 
@@ -811,44 +1075,44 @@ sixteen-units =
     record {
       start = freshSession;
       calls =
-          (bring us (message 0x100 0x31 0x20001), answered (some 0) (Value zeroResult) []) ∷
-          (finish us 0 (some (message 0x102 0x31 0x20001)), answered none lent []) ∷
-          (bring us (message 0x102 0x61 0x20001), answered (some 0) (Value zeroResult) []) ∷
-          (finish us 0 (some (message 0x102 0x31 0x20001)), answered none lent []) ∷
-          (bring us (message 0x102 0x61 0x20001), answered (some 0) (Value zeroResult) []) ∷
-          (finish us 0 (some (message 0x102 0x31 0x20001)), answered none lent []) ∷
-          (bring us (message 0x102 0x61 0x20001), answered (some 0) (Value zeroResult) []) ∷
-          (finish us 0 (some (message 0x102 0x31 0x20001)), answered none lent []) ∷
-          (bring us (message 0x102 0x61 0x20001), answered (some 0) (Value zeroResult) []) ∷
-          (finish us 0 (some (message 0x102 0x31 0x20001)), answered none lent []) ∷
-          (bring us (message 0x102 0x61 0x20001), answered (some 0) (Value zeroResult) []) ∷
-          (finish us 0 (some (message 0x102 0x31 0x20001)), answered none lent []) ∷
-          (bring us (message 0x102 0x61 0x20001), answered (some 0) (Value zeroResult) []) ∷
-          (finish us 0 (some (message 0x102 0x31 0x20001)), answered none lent []) ∷
-          (bring us (message 0x102 0x61 0x20001), answered (some 0) (Value zeroResult) []) ∷
-          (finish us 0 (some (message 0x102 0x31 0x20001)), answered none lent []) ∷
-          (bring us (message 0x102 0x61 0x20001), answered (some 0) (Value zeroResult) []) ∷
-          (finish us 0 (some (message 0x102 0x31 0x20001)), answered none lent []) ∷
-          (bring us (message 0x102 0x61 0x20001), answered (some 0) (Value zeroResult) []) ∷
-          (finish us 0 (some (message 0x102 0x31 0x20001)), answered none lent []) ∷
-          (bring us (message 0x102 0x61 0x20001), answered (some 0) (Value zeroResult) []) ∷
-          (finish us 0 (some (message 0x102 0x31 0x20001)), answered none lent []) ∷
-          (bring us (message 0x102 0x61 0x20001), answered (some 0) (Value zeroResult) []) ∷
-          (finish us 0 (some (message 0x102 0x31 0x20001)), answered none lent []) ∷
-          (bring us (message 0x102 0x61 0x20001), answered (some 0) (Value zeroResult) []) ∷
-          (finish us 0 (some (message 0x102 0x31 0x20001)), answered none lent []) ∷
-          (bring us (message 0x102 0x61 0x20001), answered (some 0) (Value zeroResult) []) ∷
-          (finish us 0 (some (message 0x102 0x31 0x20001)), answered none lent []) ∷
-          (bring us (message 0x102 0x61 0x20001), answered (some 0) (Value zeroResult) []) ∷
-          (finish us 0 (some (message 0x102 0x31 0x20001)), answered none lent []) ∷
-          (bring us (message 0x102 0x61 0x20001), answered (some 0) (Value zeroResult) []) ∷
-          (finish us 0 (some (message 0x102 0x31 0x20001)), answered none lent []) ∷
-          (bring us (message 0x102 0x1F600 0x20001), refused 9) ∷
-          (bring us (message 0x102 0x61 0x20001), answered (some 0) (Value zeroResult) []) ∷
-          (finish us 0 (some (message 0x102 0x31 0x20001)), answered none lent []) ∷
-          (bring us (message 0x102 0x61 0x20001), refused 9) ∷
-          (bring us (message 0x102 0xD83D 0x20001), refused 9) ∷
-          (bring us (message 0x107 0xB4 0xD0001), answered none (Value zeroResult) (keyEvent code.Digit1 (unidentified (native.Windows 0x02)) none at.Standard Pressed false false (some (0x61 ∷ 0x61 ∷ 0x61 ∷ 0x61 ∷ 0x61 ∷ 0x61 ∷ 0x61 ∷ 0x61 ∷ 0x61 ∷ 0x61 ∷ 0x61 ∷ 0x61 ∷ 0x61 ∷ 0x61 ∷ 0x61 ∷ 0x61 ∷ [])) (character (0x31 ∷ [])) ∷ [])) ∷
+          (bring us table (message 0x100 0x31 0x20001), answered (some 0) (Value zeroResult) []) ∷
+          (finish us table 0 (some (message 0x102 0x31 0x20001)), answered none lent []) ∷
+          (bring us table (message 0x102 0x61 0x20001), answered (some 0) (Value zeroResult) []) ∷
+          (finish us table 0 (some (message 0x102 0x31 0x20001)), answered none lent []) ∷
+          (bring us table (message 0x102 0x61 0x20001), answered (some 0) (Value zeroResult) []) ∷
+          (finish us table 0 (some (message 0x102 0x31 0x20001)), answered none lent []) ∷
+          (bring us table (message 0x102 0x61 0x20001), answered (some 0) (Value zeroResult) []) ∷
+          (finish us table 0 (some (message 0x102 0x31 0x20001)), answered none lent []) ∷
+          (bring us table (message 0x102 0x61 0x20001), answered (some 0) (Value zeroResult) []) ∷
+          (finish us table 0 (some (message 0x102 0x31 0x20001)), answered none lent []) ∷
+          (bring us table (message 0x102 0x61 0x20001), answered (some 0) (Value zeroResult) []) ∷
+          (finish us table 0 (some (message 0x102 0x31 0x20001)), answered none lent []) ∷
+          (bring us table (message 0x102 0x61 0x20001), answered (some 0) (Value zeroResult) []) ∷
+          (finish us table 0 (some (message 0x102 0x31 0x20001)), answered none lent []) ∷
+          (bring us table (message 0x102 0x61 0x20001), answered (some 0) (Value zeroResult) []) ∷
+          (finish us table 0 (some (message 0x102 0x31 0x20001)), answered none lent []) ∷
+          (bring us table (message 0x102 0x61 0x20001), answered (some 0) (Value zeroResult) []) ∷
+          (finish us table 0 (some (message 0x102 0x31 0x20001)), answered none lent []) ∷
+          (bring us table (message 0x102 0x61 0x20001), answered (some 0) (Value zeroResult) []) ∷
+          (finish us table 0 (some (message 0x102 0x31 0x20001)), answered none lent []) ∷
+          (bring us table (message 0x102 0x61 0x20001), answered (some 0) (Value zeroResult) []) ∷
+          (finish us table 0 (some (message 0x102 0x31 0x20001)), answered none lent []) ∷
+          (bring us table (message 0x102 0x61 0x20001), answered (some 0) (Value zeroResult) []) ∷
+          (finish us table 0 (some (message 0x102 0x31 0x20001)), answered none lent []) ∷
+          (bring us table (message 0x102 0x61 0x20001), answered (some 0) (Value zeroResult) []) ∷
+          (finish us table 0 (some (message 0x102 0x31 0x20001)), answered none lent []) ∷
+          (bring us table (message 0x102 0x61 0x20001), answered (some 0) (Value zeroResult) []) ∷
+          (finish us table 0 (some (message 0x102 0x31 0x20001)), answered none lent []) ∷
+          (bring us table (message 0x102 0x61 0x20001), answered (some 0) (Value zeroResult) []) ∷
+          (finish us table 0 (some (message 0x102 0x31 0x20001)), answered none lent []) ∷
+          (bring us table (message 0x102 0x61 0x20001), answered (some 0) (Value zeroResult) []) ∷
+          (finish us table 0 (some (message 0x102 0x31 0x20001)), answered none lent []) ∷
+          (bring us table (message 0x102 0x1F600 0x20001), refused 9) ∷
+          (bring us table (message 0x102 0x61 0x20001), answered (some 0) (Value zeroResult) []) ∷
+          (finish us table 0 (some (message 0x102 0x31 0x20001)), answered none lent []) ∷
+          (bring us table (message 0x102 0x61 0x20001), refused 9) ∷
+          (bring us table (message 0x102 0xD83D 0x20001), refused 9) ∷
+          (bring us table (message 0x107 0xB4 0xD0001), answered none (Value zeroResult) (keyEvent code.Digit1 (unidentified (native.Windows 0x02)) none at.Standard Pressed false false (some (0x61 ∷ 0x61 ∷ 0x61 ∷ 0x61 ∷ 0x61 ∷ 0x61 ∷ 0x61 ∷ 0x61 ∷ 0x61 ∷ 0x61 ∷ 0x61 ∷ 0x61 ∷ 0x61 ∷ 0x61 ∷ 0x61 ∷ 0x61 ∷ [])) (character (0x31 ∷ [])) ∷ [])) ∷
           [];
     }
 
@@ -858,15 +1122,15 @@ latest-token =
     record {
       start = freshSession;
       calls =
-          (finish us 0 none, refused 10) ∷
-          (bring us (message 0x101 0x0D 0xC01C0001), answered (some 0) (Value zeroResult) []) ∷
-          (bring us (message 0x101 0x31 0xC0020001), answered (some 1) (Value zeroResult) []) ∷
-          (finish us 0 none, refused 10) ∷
-          (finish us 2 none, refused 10) ∷
-          (finish us 1 none, answered none lent []) ∷
-          (finish us 1 none, refused 10) ∷
-          (finish us 0 none, answered none lent (keyEvent code.Enter (named key-Enter) none at.Standard Released false false none (named key-Enter) ∷ keyEvent code.Digit1 (character (0x31 ∷ [])) none at.Standard Released false false none (character (0x31 ∷ [])) ∷ [])) ∷
-          (finish us 0 none, refused 10) ∷
+          (finish us table 0 none, refused 10) ∷
+          (bring us table (message 0x101 0x0D 0xC01C0001), answered (some 0) (Value zeroResult) []) ∷
+          (bring us table (message 0x101 0x31 0xC0020001), answered (some 1) (Value zeroResult) []) ∷
+          (finish us table 0 none, refused 10) ∷
+          (finish us table 2 none, refused 10) ∷
+          (finish us table 1 none, answered none lent []) ∷
+          (finish us table 1 none, refused 10) ∷
+          (finish us table 0 none, answered none lent (keyEvent code.Enter (named key-Enter) none at.Standard Released false false none (named key-Enter) ∷ keyEvent code.Digit1 (character (0x31 ∷ [])) none at.Standard Released false false none (character (0x31 ∷ [])) ∷ [])) ∷
+          (finish us table 0 none, refused 10) ∷
           [];
     }
 
@@ -876,14 +1140,14 @@ entries =
     record {
       start = record { handed = 255; entries = waiting 0 (press 0x31 (keyLParam 0x20001)) ∷ numbered 1 (times 254 (keyEvent code.Digit1 (character (0x31 ∷ [])) none at.Standard Released false false none (character (0x31 ∷ []))) []); held = none };
       calls =
-          (bring us-shift (message 0x07 0x00 0x00), refused 7) ∷
-          (bring us-control (message 0x07 0x00 0x00), answered none lent []) ∷
-          (bring us (message 0x07 0x00 0x00), answered none lent []) ∷
-          (bring us-control (message 0x08 0x00 0x00), refused 7) ∷
-          (bring us (message 0x101 0x31 0xC0020001), refused 7) ∷
-          (finish us 0 none, answered none lent (keyEvent code.Digit1 (unidentified (native.Windows 0x02)) none at.Standard Pressed false false none (character (0x31 ∷ [])) ∷ times 254 (keyEvent code.Digit1 (character (0x31 ∷ [])) none at.Standard Released false false none (character (0x31 ∷ []))) (keyEvent code.ControlLeft (named key-Control) none at.Left Pressed false true none (named key-Control) ∷ []))) ∷
-          (bring us (message 0x101 0x31 0xC0020001), answered (some 0) (Value zeroResult) []) ∷
-          (finish us 0 none, answered none lent (keyEvent code.Digit1 (character (0x31 ∷ [])) none at.Standard Released false false none (character (0x31 ∷ [])) ∷ [])) ∷
+          (bring us-shift table (message 0x07 0x00 0x00), refused 7) ∷
+          (bring us-control table (message 0x07 0x00 0x00), answered none lent []) ∷
+          (bring us table (message 0x07 0x00 0x00), answered none lent []) ∷
+          (bring us-control table (message 0x08 0x00 0x00), refused 7) ∷
+          (bring us table (message 0x101 0x31 0xC0020001), refused 7) ∷
+          (finish us table 0 none, answered none lent (keyEvent code.Digit1 (unidentified (native.Windows 0x02)) none at.Standard Pressed false false none (character (0x31 ∷ [])) ∷ times 254 (keyEvent code.Digit1 (character (0x31 ∷ [])) none at.Standard Released false false none (character (0x31 ∷ []))) (keyEvent code.ControlLeft (named key-Control) none at.Left Pressed false true none (named key-Control) ∷ []))) ∷
+          (bring us table (message 0x101 0x31 0xC0020001), answered (some 0) (Value zeroResult) []) ∷
+          (finish us table 0 none, answered none lent (keyEvent code.Digit1 (character (0x31 ∷ [])) none at.Standard Released false false none (character (0x31 ∷ [])) ∷ [])) ∷
           [];
     }
 
@@ -893,18 +1157,18 @@ tokens =
     record {
       start = record { handed = 4095; entries = waiting 0 (press 0x31 (keyLParam 0x20001)) ∷ []; held = none };
       calls =
-          (bring us-shift (message 0x07 0x00 0x00), refused 8) ∷
-          (bring us (message 0x101 0x31 0xC0020001), answered (some 4095) (Value zeroResult) []) ∷
-          (bring us-control (message 0x07 0x00 0x00), refused 8) ∷
-          (bring us (message 0x07 0x00 0x00), answered none lent []) ∷
-          (finish us 4095 none, answered none lent []) ∷
-          (bring us (message 0x101 0x31 0xC0020001), refused 8) ∷
-          (finish us 0 none, answered none lent (keyEvent code.Digit1 (unidentified (native.Windows 0x02)) none at.Standard Pressed false false none (character (0x31 ∷ [])) ∷ keyEvent code.Digit1 (character (0x31 ∷ [])) none at.Standard Released false false none (character (0x31 ∷ [])) ∷ [])) ∷
-          (bring us (message 0x101 0x31 0xC0020001), answered (some 0) (Value zeroResult) []) ∷
-          (finish us 0 none, answered none lent (keyEvent code.Digit1 (character (0x31 ∷ [])) none at.Standard Released false false none (character (0x31 ∷ [])) ∷ [])) ∷
+          (bring us-shift table (message 0x07 0x00 0x00), refused 8) ∷
+          (bring us table (message 0x101 0x31 0xC0020001), answered (some 4095) (Value zeroResult) []) ∷
+          (bring us-control table (message 0x07 0x00 0x00), refused 8) ∷
+          (bring us table (message 0x07 0x00 0x00), answered none lent []) ∷
+          (finish us table 4095 none, answered none lent []) ∷
+          (bring us table (message 0x101 0x31 0xC0020001), refused 8) ∷
+          (finish us table 0 none, answered none lent (keyEvent code.Digit1 (unidentified (native.Windows 0x02)) none at.Standard Pressed false false none (character (0x31 ∷ [])) ∷ keyEvent code.Digit1 (character (0x31 ∷ [])) none at.Standard Released false false none (character (0x31 ∷ [])) ∷ [])) ∷
+          (bring us table (message 0x101 0x31 0xC0020001), answered (some 0) (Value zeroResult) []) ∷
+          (finish us table 0 none, answered none lent (keyEvent code.Digit1 (character (0x31 ∷ [])) none at.Standard Released false false none (character (0x31 ∷ [])) ∷ [])) ∷
           [];
     }
 
 abbrev pub examples : List Example
 examples =
-    digit ∷ surrogate-pair ∷ dead-key-and-letter ∷ alt-gr ∷ focus-inside ∷ enter ∷ dead-key-and-text ∷ control-at-press ∷ control-at-character ∷ bare-control ∷ alt-gr-text ∷ unpaired ∷ unpaired-behind-letter ∷ dead-character-behind-text ∷ dead-without-character ∷ dead-at-focus ∷ no-text ∷ listed-unidentified ∷ release-key ∷ toggles-at-focus ∷ pause-at-focus ∷ num-lock ∷ page-e1 ∷ menu-and-above ∷ unlisted-code ∷ wide-surrogate ∷ zero-units ∷ one-piece ∷ several-pieces ∷ wide-kind ∷ close-window ∷ press-by-finish ∷ release-by-open ∷ release-fake-by-finish ∷ release-fake-any-kind ∷ fake-by-lparam ∷ fake-control-alone ∷ nested-press-completed ∷ nested-dead-character ∷ outer-press-forgets ∷ fake-press-forgets ∷ dropped-first ∷ nested-order ∷ held-through-focus ∷ no-token-kept ∷ nothing-held ∷ eight-open ∷ sixteen-units ∷ latest-token ∷ entries ∷ tokens ∷ []
+    digit ∷ surrogate-pair ∷ dead-key-and-letter ∷ alt-gr ∷ focus-inside ∷ enter ∷ dead-key-and-text ∷ control-at-press ∷ control-at-character ∷ bare-control ∷ alt-gr-text ∷ unpaired ∷ unpaired-behind-letter ∷ dead-character-behind-text ∷ dead-without-character ∷ dead-at-focus ∷ no-text ∷ listed-unidentified ∷ release-key ∷ toggles-at-focus ∷ pause-at-focus ∷ num-lock ∷ page-e1 ∷ menu-and-above ∷ unlisted-code ∷ wide-surrogate ∷ zero-units ∷ one-piece ∷ several-pieces ∷ no-ranges-of-class ∷ joined-pictographs ∷ two-joiners ∷ flags ∷ syllables ∷ conjunct ∷ around-a-letter ∷ table-of-the-last-finish ∷ wide-kind ∷ close-window ∷ press-by-finish ∷ release-by-open ∷ release-fake-by-finish ∷ release-fake-any-kind ∷ fake-by-lparam ∷ fake-control-alone ∷ nested-press-completed ∷ nested-dead-character ∷ outer-press-forgets ∷ fake-press-forgets ∷ dropped-first ∷ nested-order ∷ held-through-focus ∷ no-token-kept ∷ nothing-held ∷ table-refused ∷ eight-open ∷ sixteen-units ∷ latest-token ∷ entries ∷ tokens ∷ []

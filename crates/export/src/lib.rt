@@ -25,7 +25,7 @@ use session::ProcResult;
 // ---- which interface this is
 
 // It rises with each change of a signature, of what a number means, or of an area. MAHJONGLARCH_INTERFACE of the header is the same.
-const INTERFACE: u32 = 1;
+const INTERFACE: u32 = 2;
 
 // The number of this interface, for a host to compare with its header's before the first call.
 #[no_mangle]
@@ -65,16 +65,27 @@ pub extern "C" fn mahjonglarch_open(
     answers: &mut [u8],
     state: &[u8],
     block: &[u8],
+    table: &[u8],
     kind: u32,
     wparam: u64,
     lparam: u64,
     token: &mut u32,
     result: &mut u32,
 ) -> u32
-    ensures { λ r. ⌜ ((was : ProcResult) → OpenSays r (now (token .exit)) (now (result .exit)) (now (session .exit)) (now (answers .exit)) (openOf (now (session .entry)) (now (answers .entry)) was (inputs (now (state .entry)) (now (block .entry))) (message kind wparam lparam)) was) ⌝ }
+    ensures { λ r. ⌜ ((was : ProcResult) → OpenSays r (now (token .exit)) (now (result .exit)) (now (session .exit)) (now (answers .exit)) (openOf (now (session .entry)) (now (answers .entry)) was (inputs (now (state .entry)) (now (block .entry)) (now (table .entry))) (message kind wparam lparam)) was) ⌝ }
 {
     let was = ProcResult::Value(1);
-    let a = message::open(session, answers, state, block, kind, wparam, lparam, was);
+    let a = message::open(
+        session,
+        answers,
+        state,
+        block,
+        table,
+        kind,
+        wparam,
+        lparam,
+        was,
+    );
     let answer = a.answer;
     let after = a.result;
     *token = crate::numbers::token_number(answer);
@@ -90,13 +101,14 @@ pub extern "C" fn mahjonglarch_finish(
     answers: &mut [u8],
     state: &[u8],
     block: &[u8],
+    table: &[u8],
     token: u32,
     peeked: u32,
     kind: u32,
     wparam: u64,
     lparam: u64,
 ) -> u32
-    ensures { λ r. ⌜ ((was : ProcResult) → FinishSays r (now (session .exit)) (now (answers .exit)) (finishOf (now (session .entry)) (now (answers .entry)) was (inputs (now (state .entry)) (now (block .entry))) token (peekedAs peeked kind wparam lparam))) ⌝ }
+    ensures { λ r. ⌜ ((was : ProcResult) → FinishSays r (now (session .exit)) (now (answers .exit)) (finishOf (now (session .entry)) (now (answers .entry)) was (inputs (now (state .entry)) (now (block .entry)) (now (table .entry))) token (peekedAs peeked kind wparam lparam))) ⌝ }
 {
     let p = peeked_at(peeked, kind, wparam, lparam);
     let a = message::finish(
@@ -104,6 +116,7 @@ pub extern "C" fn mahjonglarch_finish(
         answers,
         state,
         block,
+        table,
         PendingMessageToken(token),
         p,
     );

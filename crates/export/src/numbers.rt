@@ -18,6 +18,7 @@ pub fn refusal_number(no: Refusal) -> u32
         Refusal::AreaSize => 1,
         Refusal::KeyStateSize => 2,
         Refusal::Block => 3,
+        Refusal::Table => 11,
         Refusal::Session => 4,
         Refusal::NothingHeld => 5,
         Refusal::TooManyOpen => 6,

@@ -1,14 +1,14 @@
 // The values of the limits and of the refusals (docs/SCOPE.md, 8.2 and 6), executed: what just passes, what is refused, and that a refused
 // call keeps both areas and the message result. There is one message result, which goes from each message to the next and is printed behind each that
 // passes. It reads its steps from standard input; a step that has a name is printed with what it gave. The layout has one key, 31 with the scan code
-// 02, whose character is 1.
+// 02, whose character is 1. The break table is the largest that passes: 7,280 ranges.
 //
 //   new                        a fresh session
 //   keys VK ..                 the keys that are down; all others are up
 //   mark AT                    a byte of the session area set to 1
 //   result V                   the message result, 7 or 9; before the first such line it is the default procedure's
-//   short N                    the calls that follow get a session area (1), an answer area (2), a key state (3) or a block (4) that lacks
-//                              its last byte; 0: none
+//   short N                    the calls that follow get a session area (1), an answer area (2), a key state (3), a block (4) or a break table (5)
+//                              that lacks its last byte; two digits: both; 0: none
 //   message K W L: NAME        a message: kind, wParam, lParam
 //   finish T: NAME             the message of the token T finished with nothing peeked
 //   opens N K W L: NAME        N such messages opened: how many passed
@@ -118,6 +118,7 @@ fn open(
     answers: &mut [u8],
     state: &[u8],
     block: &[u8],
+    table: &[u8],
     m: Message,
     result: ProcResult,
 ) -> Opened {
@@ -127,6 +128,7 @@ fn open(
         answers,
         state,
         block,
+        table,
         kind,
         m.wparam,
         m.lparam,
@@ -145,11 +147,12 @@ fn finish(
     answers: &mut [u8],
     state: &[u8],
     block: &[u8],
+    table: &[u8],
     token: u32,
     peeked: Peeked,
 ) -> Said {
     let t = PendingMessageToken(token);
-    let a = message::finish(session, answers, state, block, t, peeked);
+    let a = message::finish(session, answers, state, block, table, t, peeked);
     show::said_by_finish(a)
 }
 
@@ -159,6 +162,7 @@ fn show_open(
     answers: &mut [u8],
     state: &[u8],
     block: &[u8],
+    table: &[u8],
     m: Message,
     result: ProcResult,
 ) -> ProcResult {
@@ -168,7 +172,7 @@ fn show_open(
     show::fill(answers, 7);
     show::copy(session, &mut session_was);
     show::copy(answers, &mut answers_was);
-    let o = open(session, answers, state, block, m, result);
+    let o = open(session, answers, state, block, table, m, result);
     let s = o.said;
     let after = o.result;
     if s.what == 0 {
@@ -182,14 +186,29 @@ fn show_open(
 }
 
 // A finish with nothing peeked that is shown.
-fn show_finish(session: &mut [u8], answers: &mut [u8], state: &[u8], block: &[u8], token: u32) {
+fn show_finish(
+    session: &mut [u8],
+    answers: &mut [u8],
+    state: &[u8],
+    block: &[u8],
+    table: &[u8],
+    token: u32,
+) {
     let mut session_was = io::large_buffer();
     let mut answers_was = io::large_buffer();
     // what no call writes, so that a change is seen
     show::fill(answers, 7);
     show::copy(session, &mut session_was);
     show::copy(answers, &mut answers_was);
-    let s = finish(session, answers, state, block, token, Peeked::Nothing);
+    let s = finish(
+        session,
+        answers,
+        state,
+        block,
+        table,
+        token,
+        Peeked::Nothing,
+    );
     if s.what == 0 {
         let kept = unchanged(session, &session_was) && unchanged(answers, &answers_was);
         show_refused(s.number, kept);
@@ -205,11 +224,20 @@ fn show_call(
     answers: &mut [u8],
     state: &[u8],
     block: &[u8],
+    table: &[u8],
     line: &[u8],
     result: ProcResult,
 ) -> ProcResult {
     if byte_at(line, 0) == b'm' {
-        return show_open(session, answers, state, block, message_at(line, 7), result);
+        return show_open(
+            session,
+            answers,
+            state,
+            block,
+            table,
+            message_at(line, 7),
+            result,
+        );
     }
     let t = number_at(line, 6);
     show_finish(
@@ -217,6 +245,7 @@ fn show_call(
         answers,
         state,
         block,
+        table,
         (t.value % 0x1_0000_0000) as u32,
     );
     result
@@ -234,24 +263,32 @@ fn cut(len: usize, less: bool) -> usize
     len
 }
 
+// Whether what a digit stands for lacks its last byte.
+fn lacks(short: u64, digit: u64) -> bool {
+    short % 16 == digit || short / 16 == digit
+}
+
 fn show_cut(
     session: &mut [u8],
     answers: &mut [u8],
     state: &[u8],
     block: &[u8],
+    table: &[u8],
     line: &[u8],
     short: u64,
     result: ProcResult,
 ) -> ProcResult {
-    let of_session = cut(session.len(), short == 1);
-    let of_answers = cut(answers.len(), short == 2);
-    let of_state = cut(state.len(), short == 3);
-    let of_block = cut(block.len(), short == 4);
+    let of_session = cut(session.len(), lacks(short, 1));
+    let of_answers = cut(answers.len(), lacks(short, 2));
+    let of_state = cut(state.len(), lacks(short, 3));
+    let of_block = cut(block.len(), lacks(short, 4));
+    let of_table = cut(table.len(), lacks(short, 5));
     show_call(
         &mut session[0..of_session],
         &mut answers[0..of_answers],
         &state[0..of_state],
         &block[0..of_block],
+        &table[0..of_table],
         line,
         result,
     )
@@ -278,14 +315,15 @@ fn whole(
     answers: &mut [u8],
     state: &[u8],
     block: &[u8],
+    table: &[u8],
     m: Message,
     peeked: Peeked,
     result: ProcResult,
 ) -> Passed {
-    let o = open(session, answers, state, block, m, result);
+    let o = open(session, answers, state, block, table, m, result);
     let s = o.said;
     let after = o.result;
-    let f = finish(session, answers, state, block, s.number, peeked);
+    let f = finish(session, answers, state, block, table, s.number, peeked);
     Passed {
         count: one_if(s.what == 2 && f.what == 1),
         result: after,
@@ -297,6 +335,7 @@ fn open_many(
     answers: &mut [u8; AREA_SIZE],
     state: &[u8; 256],
     block: &[u8],
+    table: &[u8],
     m: Message,
     n: u64,
     before: ProcResult,
@@ -305,7 +344,7 @@ fn open_many(
     let mut count: u64 = 0;
     let mut i: u64 = 0;
     while i < n {
-        let o = open(session, answers, state, block, m, result);
+        let o = open(session, answers, state, block, table, m, result);
         let s = o.said;
         result = o.result;
         count = std::num::wrapping_add_u64(count, one_if(s.what == 2));
@@ -319,6 +358,7 @@ fn whole_many(
     answers: &mut [u8; AREA_SIZE],
     state: &[u8; 256],
     block: &[u8],
+    table: &[u8],
     m: Message,
     peeked: Peeked,
     n: u64,
@@ -328,7 +368,7 @@ fn whole_many(
     let mut count: u64 = 0;
     let mut i: u64 = 0;
     while i < n {
-        let p = whole(session, answers, state, block, m, peeked, result);
+        let p = whole(session, answers, state, block, table, m, peeked, result);
         result = p.result;
         count = std::num::wrapping_add_u64(count, p.count);
         i += 1;
@@ -342,13 +382,14 @@ fn many(
     answers: &mut [u8; AREA_SIZE],
     state: &[u8; 256],
     block: &[u8],
+    table: &[u8],
     line: &[u8],
     result: ProcResult,
 ) -> Passed {
     if byte_at(line, 0) == b'o' {
         let n = number_at(line, 5);
         let m = message_at(line, n.next);
-        return open_many(session, answers, state, block, m, n.value, result);
+        return open_many(session, answers, state, block, table, m, n.value, result);
     }
     let n = number_at(line, 6);
     let p = number_at(line, n.next);
@@ -357,6 +398,7 @@ fn many(
         answers,
         state,
         block,
+        table,
         message_at(line, p.next),
         peeked_of(p.value),
         n.value,
@@ -372,6 +414,7 @@ fn show_step(
     answers: &mut [u8; AREA_SIZE],
     state: &[u8; 256],
     block: &[u8],
+    table: &[u8],
     line: &[u8],
     short: u64,
     result: ProcResult,
@@ -385,9 +428,9 @@ fn show_step(
         return result;
     }
     if what == b'm' || what == b'f' {
-        return show_cut(session, answers, state, block, line, short, result);
+        return show_cut(session, answers, state, block, table, line, short, result);
     }
-    let p = many(session, answers, state, block, line, result);
+    let p = many(session, answers, state, block, table, line, result);
     show_number(p.count);
     p.result
 }
@@ -429,7 +472,7 @@ fn result_of(line: &[u8], before: ProcResult) -> ProcResult {
     before
 }
 
-fn show_all(block: &[u8], input: &[u8]) {
+fn show_all(block: &[u8], table: &[u8], input: &[u8]) {
     let mut session = io::large_buffer();
     let mut answers = io::large_buffer();
     let mut state = [0u8; 256];
@@ -447,6 +490,7 @@ fn show_all(block: &[u8], input: &[u8]) {
                 &mut answers,
                 &state,
                 block,
+                table,
                 line,
                 short,
                 result,
@@ -460,10 +504,22 @@ fn show_all(block: &[u8], input: &[u8]) {
     }
 }
 
-fn with_block(block: &[u8]) {
+fn with_table(block: &[u8], table: &[u8]) {
     let mut space = io::large_buffer();
     let n = io::read_full(STDIN_FILENO, &mut space);
-    show_all(block, &space[..n]);
+    show_all(block, table, &space[..n]);
+}
+
+fn with_block(block: &[u8]) {
+    let fd = os::open_read(b"most.breaks");
+    if fd < 0 {
+        os::fail(b"most.breaks");
+        return;
+    }
+    let mut space = io::large_buffer();
+    let n = io::read_full(fd, &mut space);
+    libc::close(fd);
+    with_table(block, &space[..n]);
 }
 
 fn main() {

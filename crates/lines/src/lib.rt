@@ -43,6 +43,9 @@ fn digit_value(b: u8) -> u8 {
     if b'a' <= b && b <= b'f' {
         return b - b'a' + 10;
     }
+    if b'A' <= b && b <= b'F' {
+        return b - b'A' + 10;
+    }
     16
 }
 

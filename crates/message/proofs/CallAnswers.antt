@@ -10,15 +10,17 @@ use lib.Dec.{eqb}
 use lib.ListN.{length}
 use borrow.Author.Tests.{eqb-true}
 use Rattle.area.specs.Pick.{pick}
+use Rattle.segmentation.specs.Layout.{tableOf, tableOk}
+use Rattle.segmentation.specs.Table.{Table}
 use Rattle.lookup.specs.Block.{blockOk}
 use Rattle.session.specs.Limits.{AREA}
 use Rattle.session.specs.Given.{Message, Given, brought, finished, inputsOf}
 use Rattle.session.specs.Event.{Event, Held}
 use Rattle.session.specs.Session.{Wait, Session}
 use Rattle.session.specs.Area.{encode, decode, sessionOk, encodeAnswer}
-use Rattle.session.specs.Builder.{Keyboard, keyboardOf}
+use Rattle.session.specs.Builder.{Keyboard, keyboardOf, breakTableOf}
 use Rattle.session.specs.Calls.{Sort, sortOf, Effect, effectOf, messageEffect, findWait, resolved, finishEffect}
-use Rattle.session.specs.Questions.{question1, question2, question3, question5, question6, question7, question8, question9, firstNo, messageQuestions, finishQuestions, sessionQuestions}
+use Rattle.session.specs.Questions.{question1, question2, question3, question11, question5, question6, question7, question8, question9, firstNo, messageQuestions, finishQuestions, sessionQuestions}
 use Rattle.session.specs.Answers.{Outcome, refused, answered, questions, outcomeBy, outcomeOf, refusalNumber, Said, openSaid, finishSaid, saidToken, resultBy, leftBy, openOf, finishOf}
 use Rattle.session.specs.declared.ProcResult.{ProcResult}
 use Rattle.session.specs.declared.OpenAnswer.{OpenAnswer}
@@ -30,7 +32,7 @@ use Rattle.session.proofs.Lists.{and-true}
 use Rattle.event.specs.Written.{keyboardAt}
 use Rattle.queue.specs.Changed.{Does}
 use Rattle.queue.specs.Room.{IsArea}
-use Rattle.message.specs.Asked.{asNo, firstFour}
+use Rattle.message.specs.Asked.{asNo, toEvery}
 use Rattle.message.specs.Sorts.{asSort}
 use Rattle.message.specs.declared.questions.Asked.{Asked}
 use Rattle.message.specs.declared.questions.Asked.the-variants as a
@@ -70,57 +72,58 @@ passed-before (q ∷ qs) rs e = let h = passed-by (q .1) (q .0) (firstNo qs) e i
 -- ---- the outcome
 
 module _ (x y : List ℕ) (g : Given) where
-  abbrev four : List (ℕ × Bool)
-  four = firstFour x y (inputsOf g .keyState) (inputsOf g .block)
+  abbrev every : List (ℕ × Bool)
+  every = toEvery x y (inputsOf g .keyState) (inputsOf g .block) (inputsOf g .table)
 
-  in-two : questions x y g ≡ four ++ sessionQuestions (decode x) g
-  unfolding questions firstFour question2 question3
+  in-two : questions x y g ≡ every ++ sessionQuestions (decode x) g
+  unfolding questions toEvery question2 question3 question11
   in-two = refl
 
   outcome-as : (w : Option ℕ) → w ≡ firstNo (questions x y g) → outcomeOf x y g ≡ outcomeBy w (decode x) g
   unfolding outcomeOf
   outcome-as w e = rw e refl
 
-  outcome-early : (n : ℕ) → some n ≡ firstNo four → outcomeOf x y g ≡ refused n
+  outcome-early : (n : ℕ) → some n ≡ firstNo every → outcomeOf x y g ≡ refused n
   unfolding outcomeBy
-  outcome-early n e = outcome-as (some n) (rw in-two (failed-before n four (sessionQuestions (decode x) g) e))
+  outcome-early n e = outcome-as (some n) (rw in-two (failed-before n every (sessionQuestions (decode x) g) e))
 
-  module _ (early : none ≡ firstNo four) where
-    after-four : firstNo (questions x y g) ≡ firstNo (sessionQuestions (decode x) g)
-    after-four = rw in-two (passed-before four (sessionQuestions (decode x) g) early)
+  module _ (early : none ≡ firstNo every) where
+    after-every : firstNo (questions x y g) ≡ firstNo (sessionQuestions (decode x) g)
+    after-every = rw in-two (passed-before every (sessionQuestions (decode x) g) early)
 
     outcome-late : (n : ℕ) → some n ≡ firstNo (sessionQuestions (decode x) g) → outcomeOf x y g ≡ refused n
     unfolding outcomeBy
-    outcome-late n e = outcome-as (some n) (e ∙ sym after-four)
+    outcome-late n e = outcome-as (some n) (e ∙ sym after-every)
 
     outcome-passed :
         none ≡ firstNo (sessionQuestions (decode x) g) →
         outcomeOf x y g ≡ answered (effectOf (decode x) g .token) (encode (effectOf (decode x) g .after)) (encodeAnswer (effectOf (decode x) g .events))
     unfolding outcomeBy
-    outcome-passed e = outcome-as none (e ∙ sym after-four)
+    outcome-passed e = outcome-as none (e ∙ sym after-every)
 
--- ---- 1 to 4
+-- ---- those that are put to every call
 
-module _ (x y state block : List ℕ) {q : Asked} (early : asNo q ≡ firstNo (firstFour x y state block)) (passed : q ≡ a.Passed) where
-  pub four-none : none ≡ firstNo (firstFour x y state block)
+module _ (x y state block table : List ℕ) {q : Asked} (early : asNo q ≡ firstNo (toEvery x y state block table)) (passed : q ≡ a.Passed) where
+  pub every-none : none ≡ firstNo (toEvery x y state block table)
   unfolding asNo
-  four-none = rw passed at early
+  every-none = rw passed at early
 
-  each : (question1 x y ≡ true) × (blockOk block ≡ true) × (sessionOk x ≡ true)
-  unfolding firstFour
+  each : (question1 x y ≡ true) × (blockOk block ≡ true) × (tableOk table ≡ true) × (sessionOk x ≡ true)
+  unfolding toEvery
   each =
-      let p = first-passed 1 (question1 x y) _ four-none in
+      let p = first-passed 1 (question1 x y) _ every-none in
       let t = first-passed 2 _ _ (p .1) in
       let b = first-passed 3 (blockOk block) _ (t .1) in
-      let s = first-passed 4 (sessionOk x) _ (b .1) in
-      (p .0, b .0, s .0)
+      let r = first-passed 11 (tableOk table) _ (b .1) in
+      let s = first-passed 4 (sessionOk x) _ (r .1) in
+      (p .0, b .0, r .0, s .0)
 
   sizes : (length x ≡ AREA) × (length y ≡ AREA)
   unfolding question1
   sizes = let h = and-true (eqb (length x) AREA) (eqb (length y) AREA) (each .0) in (eqb-true (length x) AREA (h .0), eqb-true (length y) AREA (h .1))
 
   pub asked-area : IsArea x
-  asked-area = record { size = sizes .0; passed = each .2 }
+  asked-area = record { size = sizes .0; passed = each .3 }
 
   pub asked-answers : length y ≡ AREA
   asked-answers = sizes .1
@@ -128,27 +131,30 @@ module _ (x y state block : List ℕ) {q : Asked} (early : asNo q ≡ firstNo (f
   pub asked-block : blockOk block ≡ true
   asked-block = each .1
 
+  pub asked-table : tableOk table ≡ true
+  asked-table = each .2
+
 -- ---- what is left
 
 same-left : {s u : Said} {r q : ProcResult} {x v y w : List ℕ} → s ≡ u → r ≡ q → x ≡ v → y ≡ w → left s r x y ≡ left u q v w
 same-left a b c d = rw (a, b, c, d) refl
 
 -- by an open
-module _ (x y state block : List ℕ) (r : ProcResult) (m : Message) where
+module _ (x y state block table : List ℕ) (r : ProcResult) (m : Message) where
   abbrev brings : Given
-  brings = brought (inputs state block) m
+  brings = brought (inputs state block table) m
 
-  opened-as : (w : Outcome) → outcomeOf x y brings ≡ w → openOf x y r (inputs state block) m ≡ leftBy w x y r (resultBy (sortOf m) (decode x) m r)
+  opened-as : (w : Outcome) → outcomeOf x y brings ≡ w → openOf x y r (inputs state block table) m ≡ leftBy w x y r (resultBy (sortOf m) (decode x) m r)
   unfolding openOf
   opened-as w e = rw e refl
 
-  open-refused : (why : Refusal) → outcomeOf x y brings ≡ refused (refusalNumber why) → left (openSaid (o.Refused why)) r x y ≡ openOf x y r (inputs state block) m
+  open-refused : (why : Refusal) → outcomeOf x y brings ≡ refused (refusalNumber why) → left (openSaid (o.Refused why)) r x y ≡ openOf x y r (inputs state block table) m
   unfolding openSaid leftBy
   open-refused why e = sym (opened-as (refused (refusalNumber why)) e)
 
   said-so :
       (why : Refusal) {v : OpenAnswer} {w u : ProcResult} → (v ≡ o.Refused why) × (w ≡ u) → u ≡ r → outcomeOf x y brings ≡ refused (refusalNumber why) →
-      left (openSaid v) w x y ≡ openOf x y r (inputs state block) m
+      left (openSaid v) w x y ≡ openOf x y r (inputs state block table) m
   said-so why n h e = rw (n .0, n .1, h) (open-refused why e)
 
   module _ (k : MessageSort) (sorted : asSort k ≡ sortOf m) where
@@ -158,28 +164,28 @@ module _ (x y state block : List ℕ) (r : ProcResult) (m : Message) where
 
     done-here : messageEffect (decode x) (keyboardAt state block) m (asSort k) ≡ effectOf (decode x) brings
     unfolding keyboardOf
-    done-here = ap (messageEffect (decode x) (keyboardAt state block) m) sorted ∙ sym (effect-brought (decode x) (inputs state block) m)
+    done-here = ap (messageEffect (decode x) (keyboardAt state block) m) sorted ∙ sym (effect-brought (decode x) (inputs state block table) m)
 
-  module _ {q : Asked} (early : asNo q ≡ firstNo (firstFour x y state block)) where
+  module _ {q : Asked} (early : asNo q ≡ firstNo (toEvery x y state block table)) where
     pub open-early :
         (why : Refusal) → q ≡ a.Failed why → {v : OpenAnswer} {w u : ProcResult} → (v ≡ o.Refused why) × (w ≡ u) → u ≡ r →
-        left (openSaid v) w x y ≡ openOf x y r (inputs state block) m
+        left (openSaid v) w x y ≡ openOf x y r (inputs state block table) m
     unfolding asNo
     open-early why e n h = said-so why n h (outcome-early x y brings (refusalNumber why) (rw e at early))
 
     module _ (passed : q ≡ a.Passed) (k : MessageSort) (sorted : asSort k ≡ sortOf m) {p : Asked} (late : asNo p ≡ firstNo (messageQuestions (decode x) (keyboardAt state block) m (asSort k))) where
       pub open-late :
           (why : Refusal) → p ≡ a.Failed why → {v : OpenAnswer} {w u : ProcResult} → (v ≡ o.Refused why) × (w ≡ u) → u ≡ r →
-          left (openSaid v) w x y ≡ openOf x y r (inputs state block) m
+          left (openSaid v) w x y ≡ openOf x y r (inputs state block table) m
       unfolding asNo
       open-late why e n h =
           said-so why n h
-          (outcome-late x y brings (four-none x y state block early passed) (refusalNumber why) ((rw e at late) ∙ put-here k sorted))
+          (outcome-late x y brings (every-none x y state block table early passed) (refusalNumber why) ((rw e at late) ∙ put-here k sorted))
 
       pub open-passed :
           p ≡ a.Passed → (after : ProcResult) {v b : OpenAnswer} {w c : ProcResult} {z u : List ℕ} → after ≡ resultBy (asSort k) (decode x) m r →
           Gives (messageEffect (decode x) (keyboardAt state block) m (asSort k)) b z u → (v ≡ b) × (w ≡ c) → c ≡ after →
-          left (openSaid v) w z u ≡ openOf x y r (inputs state block) m
+          left (openSaid v) w z u ≡ openOf x y r (inputs state block table) m
       unfolding asNo leftBy
       open-passed e after h g n i =
           let d = done-here k sorted in
@@ -188,7 +194,7 @@ module _ (x y state block : List ℕ) (r : ProcResult) (m : Message) where
           (n .1 ∙ i ∙ h ∙ ap (λ (s : Sort). resultBy s (decode x) m r) sorted)
           (g .session ∙ ap (λ (f : Effect). encode (f .after)) d)
           (g .answers ∙ ap (λ (f : Effect). encodeAnswer (f .events)) d)
-          ∙ sym (opened-as _ (outcome-passed x y brings (four-none x y state block early passed) ((rw e at late) ∙ put-here k sorted)))
+          ∙ sym (opened-as _ (outcome-passed x y brings (every-none x y state block table early passed) ((rw e at late) ∙ put-here k sorted)))
 
 -- a finish opens no message
 resolved-token : (v : Bool) (s : Session) (t : ℕ) (e : Option Event) (h : Option Held) → resolved v s t e h .token ≡ none
@@ -196,20 +202,20 @@ unfolding resolved
 resolved-token true s t e h = refl
 resolved-token false s t e h = refl
 
-finish-token : (s : Session) (b : Keyboard) (t : ℕ) (p : Option Message) (w : Option Wait) → finishEffect s b t p w .token ≡ none
-finish-token s b t p none = ap (λ (d : Effect). d .token) (finish-lost s b t p)
-finish-token s b t p (some w) = ap (λ (d : Effect). d .token) (finish-found s b t p w) ∙ resolved-token _ _ _ _ _
+finish-token : (s : Session) (b : Keyboard) (r : Table) (t : ℕ) (p : Option Message) (w : Option Wait) → finishEffect s b r t p w .token ≡ none
+finish-token s b r t p none = ap (λ (d : Effect). d .token) (finish-lost s b r t p)
+finish-token s b r t p (some w) = ap (λ (d : Effect). d .token) (finish-found s b r t p w) ∙ resolved-token _ _ _ _ _
 
 -- by a finish
-module _ (x y state block : List ℕ) (r : ProcResult) (t : ℕ) (n : Option Message) where
+module _ (x y state block table : List ℕ) (r : ProcResult) (t : ℕ) (n : Option Message) where
   abbrev finishes : Given
-  finishes = finished (inputs state block) t n
+  finishes = finished (inputs state block table) t n
 
-  finished-as : (w : Outcome) → outcomeOf x y finishes ≡ w → finishOf x y r (inputs state block) t n ≡ leftBy w x y r r
+  finished-as : (w : Outcome) → outcomeOf x y finishes ≡ w → finishOf x y r (inputs state block table) t n ≡ leftBy w x y r r
   unfolding finishOf
   finished-as w e = rw e refl
 
-  finish-refused : (why : Refusal) → outcomeOf x y finishes ≡ refused (refusalNumber why) → left (finishSaid (f.Refused why)) r x y ≡ finishOf x y r (inputs state block) t n
+  finish-refused : (why : Refusal) → outcomeOf x y finishes ≡ refused (refusalNumber why) → left (finishSaid (f.Refused why)) r x y ≡ finishOf x y r (inputs state block table) t n
   unfolding finishSaid leftBy
   finish-refused why e = sym (finished-as (refused (refusalNumber why)) e)
 
@@ -217,34 +223,34 @@ module _ (x y state block : List ℕ) (r : ProcResult) (t : ℕ) (n : Option Mes
   unfolding sessionQuestions
   finish-put = refl
 
-  finish-done : finishEffect (decode x) (keyboardAt state block) t n (findWait t (decode x .entries)) ≡ effectOf (decode x) finishes
-  unfolding keyboardOf
-  finish-done = sym (effect-finished (decode x) (inputs state block) t n)
+  finish-done : finishEffect (decode x) (keyboardAt state block) (tableOf table) t n (findWait t (decode x .entries)) ≡ effectOf (decode x) finishes
+  unfolding keyboardOf breakTableOf
+  finish-done = sym (effect-finished (decode x) (inputs state block table) t n)
 
-  module _ {q : Asked} (early : asNo q ≡ firstNo (firstFour x y state block)) where
-    pub finish-early : (why : Refusal) → q ≡ a.Failed why → left (finishSaid (f.Refused why)) r x y ≡ finishOf x y r (inputs state block) t n
+  module _ {q : Asked} (early : asNo q ≡ firstNo (toEvery x y state block table)) where
+    pub finish-early : (why : Refusal) → q ≡ a.Failed why → left (finishSaid (f.Refused why)) r x y ≡ finishOf x y r (inputs state block table) t n
     unfolding asNo
     finish-early why e = finish-refused why (outcome-early x y finishes (refusalNumber why) (rw e at early))
 
     module _ (passed : q ≡ a.Passed) {p : Asked} (late : asNo p ≡ firstNo (finishQuestions (decode x) t)) where
-      pub finish-late : (why : Refusal) → p ≡ a.Failed why → left (finishSaid (f.Refused why)) r x y ≡ finishOf x y r (inputs state block) t n
+      pub finish-late : (why : Refusal) → p ≡ a.Failed why → left (finishSaid (f.Refused why)) r x y ≡ finishOf x y r (inputs state block table) t n
       unfolding asNo
       finish-late why e =
-          finish-refused why (outcome-late x y finishes (four-none x y state block early passed) (refusalNumber why) ((rw e at late) ∙ finish-put))
+          finish-refused why (outcome-late x y finishes (every-none x y state block table early passed) (refusalNumber why) ((rw e at late) ∙ finish-put))
 
       pub finish-passed :
           p ≡ a.Passed → {z u : List ℕ} →
-          Does (finishedBy (decode x) (keyboardAt state block) t n) z u →
-          left (finishSaid f.Finished) r z u ≡ finishOf x y r (inputs state block) t n
+          Does (finishedBy (decode x) (keyboardAt state block) (tableOf table) t n) z u →
+          left (finishSaid f.Finished) r z u ≡ finishOf x y r (inputs state block table) t n
       unfolding asNo leftBy finishSaid
       finish-passed e g =
           let d = finish-done in
           same-left
-          (ap saidToken (sym (finish-token (decode x) (keyboardAt state block) t n (findWait t (decode x .entries))) ∙ ap (λ (f : Effect). f .token) d))
+          (ap saidToken (sym (finish-token (decode x) (keyboardAt state block) (tableOf table) t n (findWait t (decode x .entries))) ∙ ap (λ (f : Effect). f .token) d))
           refl
           (g .session ∙ ap (λ (f : Effect). encode (f .after)) d)
           (g .answers ∙ ap (λ (f : Effect). encodeAnswer (f .events)) d)
-          ∙ sym (finished-as _ (outcome-passed x y finishes (four-none x y state block early passed) ((rw e at late) ∙ finish-put)))
+          ∙ sym (finished-as _ (outcome-passed x y finishes (every-none x y state block table early passed) ((rw e at late) ∙ finish-put)))
 
 -- ---- what a callee was given, which is what it is to be given
 
@@ -256,9 +262,9 @@ told-asked s b m k q h e = rw (← e) h
 
 -- the message of the token u finished with q
 pub told-done :
-    (s : Session) (b : Keyboard) (t : ℕ) (p : Peeked) {u : ℕ} {q : Peeked} {z w : List ℕ} →
-    Does (finishedBy s b u (asPeeked q)) z w → (u ≡ t) × (q ≡ p) → Does (finishedBy s b t (asPeeked p)) z w
-told-done s b t p h e = rw (← e .0, ← e .1) h
+    (s : Session) (b : Keyboard) (r : Table) (t : ℕ) (p : Peeked) {u : ℕ} {q : Peeked} {z w : List ℕ} →
+    Does (finishedBy s b r u (asPeeked q)) z w → (u ≡ t) × (q ≡ p) → Does (finishedBy s b r t (asPeeked p)) z w
+told-done s b r t p h e = rw (← e .0, ← e .1) h
 
 -- ---- 5 to 9
 

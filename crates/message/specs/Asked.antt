@@ -6,6 +6,7 @@ use mathlib.Core.List.{List, [], _∷_}
 use mathlib.Core.Option.{Option, some, none}
 use lib.Dec.{eqb}
 use lib.ListN.{length}
+use Rattle.segmentation.specs.Layout.{tableOk}
 use Rattle.lookup.specs.Block.{blockOk}
 use Rattle.session.specs.Limits.{KEYS}
 use Rattle.session.specs.Questions.{question1}
@@ -19,6 +20,7 @@ unfoldable pub asNo : Asked → Option ℕ
 asNo a.Passed = none
 asNo (a.Failed r) = some (refusalNumber r)
 
--- SCOPE 6.11: 1 to 4 are put to every call
-unfoldable pub firstFour : List ℕ → List ℕ → List ℕ → List ℕ → List (ℕ × Bool)
-firstFour x y state block = (1, question1 x y) ∷ (2, eqb (length state) KEYS) ∷ (3, blockOk block) ∷ (4, sessionOk x) ∷ []
+-- SCOPE 6.0: 1 to 3, 11 and 4 are put to every call
+unfoldable pub toEvery : List ℕ → List ℕ → List ℕ → List ℕ → List ℕ → List (ℕ × Bool)
+toEvery x y state block table =
+    (1, question1 x y) ∷ (2, eqb (length state) KEYS) ∷ (3, blockOk block) ∷ (11, tableOk table) ∷ (4, sessionOk x) ∷ []

@@ -6,8 +6,8 @@ use Rattle.session.specs.Given.{Message, Inputs}
 use Rattle.session.specs.Answers.{Left, Said}
 use Rattle.session.specs.declared.ProcResult.{ProcResult}
 
-abbrev pub inputs : List ℕ → List ℕ → Inputs
-inputs state block = record { keyState = state; block = block }
+abbrev pub inputs : List ℕ → List ℕ → List ℕ → Inputs
+inputs state block table = record { keyState = state; block = block; table = table }
 
 abbrev pub message : ℕ → ℕ → ℕ → Message
 message kind wparam lparam = record { kind = kind; wparam = wparam; lparam = lparam }

@@ -6,6 +6,7 @@ use mathlib.Core.List.{List}
 use mathlib.Core.Option.{Option}
 use Prim.Native.Nat.{ℕ, _+_, _*_}
 use lib.ListN.{length, drop}
+use Rattle.segmentation.specs.Table.{Table}
 use Rattle.lookup.specs.Block.{blockOk}
 use Rattle.session.specs.Limits.{AREA, ENTRIES-AT, ENTRY-SIZE}
 use Rattle.session.specs.Area.{entry}
@@ -25,5 +26,5 @@ pub record EntryAt (k : Pending) (x y block : List ℕ) (t place : ℕ) : Type 0
   pub case : pendingOf (entry .get (drop (ENTRIES-AT + ENTRY-SIZE * place) x)) ≡ k
 
 -- what the finish of the token t does, with what was peeked
-abbrev pub finishedBy : Session → Keyboard → ℕ → Option Message → Effect
-finishedBy s b t p = finishEffect s b t p (findWait t (s .entries))
+abbrev pub finishedBy : Session → Keyboard → Table → ℕ → Option Message → Effect
+finishedBy s b r t p = finishEffect s b r t p (findWait t (s .entries))

@@ -2,6 +2,8 @@
 ghost use mathlib.Core.Bool.{true};
 ghost use mathlib.Core.Path.{_≡_};
 ghost use lib.ListN.{length};
+ghost use Rattle.segmentation.specs.Layout.{tableOf, tableOk};
+ghost use Rattle.segmentation.specs.Table.{Table};
 ghost use Rattle.lookup.specs.Block.{blockOk};
 ghost use Rattle.session.specs.Area.{decode};
 ghost use Rattle.session.specs.Limits.{AREA};
@@ -20,7 +22,8 @@ use session::PendingMessageToken;
 
 // ---- a press
 
-// SCOPE 3.5: a press forgets the held press. It is held itself where what was peeked says so; else it is completed, unless fake.
+// SCOPE 3.5: a press forgets the held press. It is held itself where what was peeked says so; else it is completed, unless fake. It asks no break
+// table.
 fn finish_press(
     session: &mut [u8],
     answers: &mut [u8],
@@ -31,7 +34,7 @@ fn finish_press(
     peeked: Peeked,
 )
     requires { ⌜ EntryAt Press (now session) (now answers) (now block) (token .0) place ⌝ }
-    ensures { λ _. ⌜ Does (finishedBy (decode (now (session .entry))) (keyboardAt (now (state .entry)) (now (block .entry))) (token .0) (asPeeked peeked)) (now (session .exit)) (now (answers .exit)) ⌝ }
+    ensures { λ _. ⌜ ((r : Table) → Does (finishedBy (decode (now (session .entry))) (keyboardAt (now (state .entry)) (now (block .entry))) r (token .0) (asPeeked peeked)) (now (session .exit)) (now (answers .exit))) ⌝ }
 {
     let at = ENTRIES_AT + ENTRY_SIZE * place + 4;
     let p = record::read::pressed_at(&session[at..]);
@@ -52,7 +55,8 @@ fn finish_press(
 
 // ---- a release
 
-// SCOPE 3.4, 3.15: a release is completed with what its open read, unless fake by the finish's AltGr flag. The held press stays.
+// SCOPE 3.4, 3.15: a release is completed with what its open read, unless fake by the finish's AltGr flag. The held press stays. It asks no break
+// table.
 fn finish_release(
     session: &mut [u8],
     answers: &mut [u8],
@@ -63,7 +67,7 @@ fn finish_release(
     peeked: Peeked,
 )
     requires { ⌜ EntryAt Release (now session) (now answers) (now block) (token .0) place ⌝ }
-    ensures { λ _. ⌜ Does (finishedBy (decode (now (session .entry))) (keyboardAt (now (state .entry)) (now (block .entry))) (token .0) (asPeeked peeked)) (now (session .exit)) (now (answers .exit)) ⌝ }
+    ensures { λ _. ⌜ ((r : Table) → Does (finishedBy (decode (now (session .entry))) (keyboardAt (now (state .entry)) (now (block .entry))) r (token .0) (asPeeked peeked)) (now (session .exit)) (now (answers .exit))) ⌝ }
 {
     let at = ENTRIES_AT + ENTRY_SIZE * place + 5;
     let info = record::read::info_at(&session[at..]);
@@ -83,17 +87,18 @@ fn finish_character(
     answers: &mut [u8],
     state: &[u8],
     block: &[u8],
+    table: &[u8],
     token: PendingMessageToken,
     place: usize,
     peeked: Peeked,
 )
-    requires { ⌜ EntryAt Character (now session) (now answers) (now block) (token .0) place ⌝ }
-    ensures { λ _. ⌜ Does (finishedBy (decode (now (session .entry))) (keyboardAt (now (state .entry)) (now (block .entry))) (token .0) (asPeeked peeked)) (now (session .exit)) (now (answers .exit)) ⌝ }
+    requires { ⌜ EntryAt Character (now session) (now answers) (now block) (token .0) place × (tableOk (now table) ≡ true) ⌝ }
+    ensures { λ _. ⌜ Does (finishedBy (decode (now (session .entry))) (keyboardAt (now (state .entry)) (now (block .entry))) (tableOf (now (table .entry))) (token .0) (asPeeked peeked)) (now (session .exit)) (now (answers .exit)) ⌝ }
 {
     let head = record::read::header_at(session);
     if crate::peeked::completes(head.held, peeked) {
         let h = record::read::held_at(&session[HELD_AT..]);
-        let e = event::character::char_event(state, block, h);
+        let e = event::character::char_event(state, block, table, h);
         queue::held_press::forget_held(session);
         queue::event_queue::complete_pending(session, answers, place, token, e);
         return;
@@ -109,11 +114,12 @@ pub fn finish_open(
     answers: &mut [u8],
     state: &[u8],
     block: &[u8],
+    table: &[u8],
     token: PendingMessageToken,
     peeked: Peeked,
 )
-    requires { ⌜ IsArea (now session) × (length (now answers) ≡ AREA) × (blockOk (now block) ≡ true) ⌝ }
-    ensures { λ _. ⌜ Does (finishedBy (decode (now (session .entry))) (keyboardAt (now (state .entry)) (now (block .entry))) (token .0) (asPeeked peeked)) (now (session .exit)) (now (answers .exit)) ⌝ }
+    requires { ⌜ IsArea (now session) × (length (now answers) ≡ AREA) × (blockOk (now block) ≡ true) × (tableOk (now table) ≡ true) ⌝ }
+    ensures { λ _. ⌜ Does (finishedBy (decode (now (session .entry))) (keyboardAt (now (state .entry)) (now (block .entry))) (tableOf (now (table .entry))) (token .0) (asPeeked peeked)) (now (session .exit)) (now (answers .exit)) ⌝ }
 {
     let h = record::read::header_at(session);
     let place = queue::pending::find(session, token);
@@ -131,6 +137,7 @@ pub fn finish_open(
             answers,
             state,
             block,
+            table,
             token,
             place,
             peeked,

@@ -38,16 +38,17 @@ pub fn open(
     answers: &mut [u8],
     state: &[u8],
     block: &[u8],
+    table: &[u8],
     kind: u32,
     wparam: u64,
     lparam: u64,
     result: ProcResult,
 ) -> Opened
-    ensures { λ r. ⌜ left (openSaid (r .answer)) (r .result) (now (session .exit)) (now (answers .exit)) ≡ openOf (now (session .entry)) (now (answers .entry)) result (inputs (now (state .entry)) (now (block .entry))) (message kind wparam lparam) ⌝ }
+    ensures { λ r. ⌜ left (openSaid (r .answer)) (r .result) (now (session .exit)) (now (answers .exit)) ≡ openOf (now (session .entry)) (now (answers .entry)) result (inputs (now (state .entry)) (now (block .entry)) (now (table .entry))) (message kind wparam lparam) ⌝ }
 {
-    let early = crate::questions::ask_areas(session, answers, state, block);
+    let early = crate::questions::ask_areas(session, answers, state, block, table);
     if let Asked::Failed(no) = early {
-        return answered(OpenAnswer::Refused(no), result); // 1 to 4
+        return answered(OpenAnswer::Refused(no), result); // 1 to 3, 11, 4
     }
     let sort = crate::sorts::sort_of(kind, wparam, lparam);
     let late = crate::questions::ask_message(session, state, block, sort, wparam);
@@ -66,12 +67,13 @@ pub fn finish(
     answers: &mut [u8],
     state: &[u8],
     block: &[u8],
+    table: &[u8],
     token: PendingMessageToken,
     peeked: Peeked,
 ) -> FinishAnswer
-    ensures { λ r. ⌜ ((result : ProcResult) → left (finishSaid r) result (now (session .exit)) (now (answers .exit)) ≡ finishOf (now (session .entry)) (now (answers .entry)) result (inputs (now (state .entry)) (now (block .entry))) (token .0) (asPeeked peeked)) ⌝ }
+    ensures { λ r. ⌜ ((result : ProcResult) → left (finishSaid r) result (now (session .exit)) (now (answers .exit)) ≡ finishOf (now (session .entry)) (now (answers .entry)) result (inputs (now (state .entry)) (now (block .entry)) (now (table .entry))) (token .0) (asPeeked peeked)) ⌝ }
 {
-    let early = crate::questions::ask_areas(session, answers, state, block);
+    let early = crate::questions::ask_areas(session, answers, state, block, table);
     if let Asked::Failed(no) = early {
         return FinishAnswer::Refused(no);
     }
@@ -79,6 +81,6 @@ pub fn finish(
     if let Asked::Failed(no) = late {
         return FinishAnswer::Refused(no);
     }
-    crate::finishing::finish_open(session, answers, state, block, token, peeked);
+    crate::finishing::finish_open(session, answers, state, block, table, token, peeked);
     FinishAnswer::Finished
 }

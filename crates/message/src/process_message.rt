@@ -18,15 +18,26 @@ pub fn process_message(
     answers: &mut [u8],
     state: &[u8],
     block: &[u8],
+    table: &[u8],
     kind: u32,
     wparam: u64,
     lparam: u64,
     result: &mut MessageResult,
 ) -> OpenAnswer
-    ensures { λ r. ⌜ left (openSaid r) (now (result .exit) .value) (now (session .exit)) (now (answers .exit)) ≡ openOf (now (session .entry)) (now (answers .entry)) (now (result .entry) .value) (inputs (now (state .entry)) (now (block .entry))) (message kind wparam lparam) ⌝ }
+    ensures { λ r. ⌜ left (openSaid r) (now (result .exit) .value) (now (session .exit)) (now (answers .exit)) ≡ openOf (now (session .entry)) (now (answers .entry)) (now (result .entry) .value) (inputs (now (state .entry)) (now (block .entry)) (now (table .entry))) (message kind wparam lparam) ⌝ }
 {
     let old = result.value;
-    let a = crate::open(session, answers, state, block, kind, wparam, lparam, old);
+    let a = crate::open(
+        session,
+        answers,
+        state,
+        block,
+        table,
+        kind,
+        wparam,
+        lparam,
+        old,
+    );
     result.value = a.result;
     a.answer
 }
@@ -38,12 +49,13 @@ pub fn lend_result(
     answers: &mut [u8],
     state: &[u8],
     block: &[u8],
+    table: &[u8],
     kind: u32,
     wparam: u64,
     lparam: u64,
     result: ProcResult,
 ) -> Opened
-    ensures { λ r. ⌜ left (openSaid (r .answer)) (r .result) (now (session .exit)) (now (answers .exit)) ≡ openOf (now (session .entry)) (now (answers .entry)) result (inputs (now (state .entry)) (now (block .entry))) (message kind wparam lparam) ⌝ }
+    ensures { λ r. ⌜ left (openSaid (r .answer)) (r .result) (now (session .exit)) (now (answers .exit)) ≡ openOf (now (session .entry)) (now (answers .entry)) result (inputs (now (state .entry)) (now (block .entry)) (now (table .entry))) (message kind wparam lparam) ⌝ }
 {
     let mut lent = MessageResult { value: result };
     let answer = process_message(
@@ -51,6 +63,7 @@ pub fn lend_result(
         answers,
         state,
         block,
+        table,
         kind,
         wparam,
         lparam,

@@ -1,4 +1,4 @@
-// The questions that a call is put through (SCOPE 6): 1 to 4 put to every call, 5 to 9 to calls that bring a message, 10 to finishes.
+// The questions that a call is put through (SCOPE 6): 1 to 3, 11 and 4 put to every call, 5 to 9 to calls that bring a message, 10 to finishes.
 ghost use mathlib.Core.Bool.{true};
 ghost use mathlib.Core.Path.{_≡_};
 ghost use Prim.Native.Nat.{ℕ, _≤_};
@@ -9,7 +9,7 @@ ghost use Rattle.session.specs.Limits.{ENTRIES-MOST};
 ghost use Rattle.session.specs.Questions.{firstNo, opens, newEntries, unitsAfter, question5, question6, messageQuestions, finishQuestions};
 ghost use Rattle.event.specs.Written.{keyboardAt};
 ghost use Rattle.queue.specs.Room.{IsArea};
-ghost use Rattle.message.specs.Asked.{asNo, firstFour};
+ghost use Rattle.message.specs.Asked.{asNo, toEvery};
 ghost use Rattle.message.specs.Sorts.{asSort};
 use crate::sorts::MessageSort;
 use session::AREA_SIZE;
@@ -30,9 +30,9 @@ pub enum Asked {
     Failed(Refusal),
 }
 
-// 1 to 4, put to every call.
-pub fn ask_areas(session: &[u8], answers: &[u8], state: &[u8], block: &[u8]) -> Asked
-    ensures { λ r. ⌜ asNo r ≡ firstNo (firstFour (now (session .entry)) (now (answers .entry)) (now (state .entry)) (now (block .entry))) ⌝ }
+// 1 to 3, 11 and 4, put to every call.
+pub fn ask_areas(session: &[u8], answers: &[u8], state: &[u8], block: &[u8], table: &[u8]) -> Asked
+    ensures { λ r. ⌜ asNo r ≡ firstNo (toEvery (now (session .entry)) (now (answers .entry)) (now (state .entry)) (now (block .entry)) (now (table .entry))) ⌝ }
 {
     if session.len() != AREA_SIZE {
         return Asked::Failed(Refusal::AreaSize);
@@ -46,10 +46,13 @@ pub fn ask_areas(session: &[u8], answers: &[u8], state: &[u8], block: &[u8]) -> 
     if !lookup::block::block_ok(block) {
         return Asked::Failed(Refusal::Block);
     }
+    if !segmentation::break_table::table_ok(table) {
+        return Asked::Failed(Refusal::Table);
+    }
     if !record::check::session_ok(session) {
         return Asked::Failed(Refusal::Session);
     }
-    Asked::Passed // 1 to 4
+    Asked::Passed // those put to every call
 }
 
 // ---- what a message asks for, of a session's area
@@ -70,7 +73,7 @@ fn opens(session: &[u8], sort: MessageSort) -> bool
     }
 }
 
-// SCOPE 6.11: how many entries it needs, and so many tokens. Focus on an empty queue needs none.
+// SCOPE 6.0: how many entries it needs, and so many tokens. Focus on an empty queue needs none.
 fn new_entries(session: &[u8], state: &[u8], block: &[u8], sort: MessageSort) -> usize
     requires { ⌜ IsArea (now session) × (blockOk (now block) ≡ true) ⌝ }
     ensures { λ r. ⌜ (r ≡ newEntries (decode (now (session .entry))) (keyboardAt (now (state .entry)) (now (block .entry))) (asSort sort)) × (r ≤ ENTRIES-MOST) ⌝ }

@@ -80,8 +80,10 @@ fn bytes_of(d: &[u8], p: Part) -> &[u8] {
     &d[from..to]
 }
 
-// The block that starts at a place: 4 bytes with its length, and its bytes.
-fn block_from(d: &[u8], at: usize) -> Part {
+// The file begins with two lists, of blocks and of break tables: 1 byte says how many there are, and 4 bytes before each how long it is.
+
+// The block or table that starts at a place.
+fn listed_from(d: &[u8], at: usize) -> Part {
     if d.len() < 4 {
         return Part { from: 0, to: 0 };
     }
@@ -91,15 +93,31 @@ fn block_from(d: &[u8], at: usize) -> Part {
     part_from(d, at + 4, u32_at(d, at) as usize)
 }
 
-// The block of a number. The first byte says how many there are.
-fn block_of(d: &[u8], number: u8) -> Part {
-    let mut p = block_from(d, 1);
+// The one of a number, in the list that starts at a place.
+fn listed(d: &[u8], list: usize, number: u8) -> Part {
+    let mut p = listed_from(d, behind(d, list));
     let mut i: u8 = 0;
     while i < number {
-        p = block_from(d, p.to);
+        p = listed_from(d, p.to);
         i += 1;
     }
     p
+}
+
+// The place behind a list.
+fn behind_list(d: &[u8], list: usize) -> usize {
+    let count = byte_at(d, list);
+    if count == 0 {
+        return behind(d, list);
+    }
+    let p = listed(d, list, count - 1);
+    p.to
+}
+
+const BLOCKS_AT: usize = 0;
+
+fn tables_at(d: &[u8]) -> usize {
+    behind_list(d, BLOCKS_AT)
 }
 
 // ---- a call
@@ -163,6 +181,7 @@ fn open(
     answers: &mut [u8; AREA_SIZE],
     state: &[u8; 256],
     block: &[u8],
+    table: &[u8],
     last: ProcResult,
 ) -> Called {
     let o = message::process_message::lend_result(
@@ -170,6 +189,7 @@ fn open(
         answers,
         state,
         block,
+        table,
         u32_at(r, 0),
         u64_at(r, 4),
         u64_at(r, 12),
@@ -189,9 +209,10 @@ fn finish(
     answers: &mut [u8; AREA_SIZE],
     state: &[u8; 256],
     block: &[u8],
+    table: &[u8],
 ) -> Differs {
     let token = PendingMessageToken(u32_at(r, 20));
-    let a = message::finish(session, answers, state, block, token, peeked_at(r));
+    let a = message::finish(session, answers, state, block, table, token, peeked_at(r));
     if !as_expected(r, show::said_by_finish(a)) {
         return Differs::Answer;
     }
@@ -269,13 +290,14 @@ fn call(
     answers: &mut [u8; AREA_SIZE],
     state: &[u8; 256],
     block: &[u8],
+    table: &[u8],
     last: ProcResult,
 ) -> Called {
     if what == 3 {
-        return open(r, session, answers, state, block, last);
+        return open(r, session, answers, state, block, table, last);
     }
     Called {
-        differs: finish(r, session, answers, state, block),
+        differs: finish(r, session, answers, state, block, table),
         result: last,
     }
 }
@@ -289,11 +311,21 @@ fn play_call(
     expected: &mut [u8; AREA_SIZE],
     state: &[u8; 256],
     block: &[u8],
+    table: &[u8],
     last: ProcResult,
 ) -> Played {
     let mut r = [0u8; 48];
     let mut next = unpack(d, behind(d, at), &mut r);
-    let c = call(byte_at(d, at), &r, session, answers, state, block, last);
+    let c = call(
+        byte_at(d, at),
+        &r,
+        session,
+        answers,
+        state,
+        block,
+        table,
+        last,
+    );
     let result = c.result;
     let mut differs = c.differs;
     let mut events: u64 = 0;
@@ -325,8 +357,10 @@ fn play(
     answers: &mut [u8; AREA_SIZE],
     expected: &mut [u8; AREA_SIZE],
 ) -> Played {
+    let tables = tables_at(d);
     let mut state = [0u8; 256];
     let mut block = Part { from: 0, to: 0 };
+    let mut table = Part { from: 0, to: 0 };
     let mut result = ProcResult::DefWindowProc;
     let mut at = from;
     let mut calls: u64 = 0;
@@ -346,7 +380,9 @@ fn play(
         }
         if what == 2 {
             at = behind(d, at);
-            block = block_of(d, byte_at(d, at));
+            block = listed(d, BLOCKS_AT, byte_at(d, at));
+            at = behind(d, at);
+            table = listed(d, tables, byte_at(d, at));
             at = unpack_state(d, behind(d, at), &mut state);
         } else {
             let p = play_call(
@@ -357,6 +393,7 @@ fn play(
                 expected,
                 &state,
                 bytes_of(d, block),
+                bytes_of(d, table),
                 result,
             );
             at = p.at;
@@ -384,16 +421,6 @@ fn play(
         differs: Differs::Nowhere,
         result,
     }
-}
-
-// The place behind the blocks.
-fn first_script(d: &[u8]) -> usize {
-    let count = byte_at(d, 0);
-    if count == 0 {
-        return 1;
-    }
-    let p = block_of(d, count - 1);
-    p.to
 }
 
 // One script from its name on, with its line.
@@ -428,7 +455,7 @@ fn play_all(d: &[u8]) -> All {
     let mut session = io::large_buffer();
     let mut answers = io::large_buffer();
     let mut expected = io::large_buffer();
-    let mut at = first_script(d);
+    let mut at = behind_list(d, tables_at(d));
     let mut scripts: u64 = 0;
     let mut calls: u64 = 0;
     let mut events: u64 = 0;

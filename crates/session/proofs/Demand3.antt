@@ -11,11 +11,11 @@ use borrow.Author.Tests.{eq-eqb}
 use Rattle.session.specs.Limits.{AREA, KEYS}
 use Rattle.session.specs.Given.{Message, Inputs, Given, finished}
 use Rattle.session.specs.Event.{Event}
-use Rattle.session.specs.Builder.{keyboardOf}
+use Rattle.session.specs.Builder.{keyboardOf, breakTableOf}
 use Rattle.session.specs.Session.{Session, freshSession}
 use Rattle.session.specs.Area.{encode, decode, sessionOk, encodeAnswer}
 use Rattle.session.specs.Calls.{Effect, finishEvent, effectOf}
-use Rattle.session.specs.Questions.{question1, question2, question3, question10, firstNo, messageQuestions, finishQuestions, sessionQuestions}
+use Rattle.session.specs.Questions.{question1, question2, question3, question11, question10, firstNo, messageQuestions, finishQuestions, sessionQuestions}
 use Rattle.session.specs.Answers.{Outcome, refused, answered, outcomeBy, freshArea}
 use Rattle.session.specs.Book.{Arrival, Press, Note, heldIn}
 use Rattle.session.specs.Run.{Call, State, Closing, start, joined, next, run, closings, ClosingsInRange}
@@ -42,10 +42,10 @@ pub closing-passes :
     (S : Stack) (t h c : ℕ) (a : Arrival) (D : List Done) (p : Option Press) (k : Closing) →
     Wf c h (push S t a D) → Keeps (view (push S t a D) h c p .session) → WellFormed k →
     firstNo (asked (view (push S t a D) h c p) (record { given = finished (k .inputs) t (k .peeked); answers = k .answers })) ≡ none
-unfolding firstNo question1 question2 question3
+unfolding firstNo question1 question2 question3 question11
 closing-passes S t h c a D p k w s f =
     let b = session-back (view (push S t a D) h c p .session) (view-session (push S t a D) h c p w s) in
-    rw (eq-eqb (length (encode (view (push S t a D) h c p .session))) AREA (b .0), eq-eqb (length (k .answers)) AREA (f .answers), eq-eqb (length (k .inputs .keyState)) KEYS (f .keyState), f .block)
+    rw (eq-eqb (length (encode (view (push S t a D) h c p .session))) AREA (b .0), eq-eqb (length (k .answers)) AREA (f .answers), eq-eqb (length (k .inputs .keyState)) KEYS (f .keyState), f .block, f .table)
     (latest-passes S t h c a D p (k .inputs) (k .peeked))
 
 -- what is left to be closed, and how it ends
@@ -72,7 +72,7 @@ ended (q ∷ ks) (push S t a D) h c p os w k r f l =
     let v : Paper = view (push S t a D) h c p in
     let fine : Fine v = record { inv = record { stack = push S t a D; h = h; c = c; p = p; wf = w; same = refl }; keeps = k } in
     let passes = closing-passes S t h c a D p q w k (f .0) in
-    let L : List Done = kept t (a .number) (finishEvent (keyboardOf (q .inputs)) (heldIn p) (waitOf a) (q .peeked)) D in
+    let L : List Done = kept t (a .number) (finishEvent (keyboardOf (q .inputs)) (breakTableOf (q .inputs)) (heldIn p) (waitOf a) (q .peeked)) D in
     let v' : Paper = view (app S L) h c (heldNext p a (q .inputs) (q .peeked)) in
     let e : Effect = effectOf (v .session) g in
     let o : Outcome = answered (e .token) (encode (e .after)) (encodeAnswer (e .events)) in
@@ -80,7 +80,7 @@ ended (q ∷ ks) (push S t a D) h c p os w k r f l =
     let d : done v g e ≡ v' = finish-good S t h c a D p (q .inputs) (q .peeked) w in
     let one : next (areaOf v os) call ≡ areaOf v' (os ++ (o ∷ []))
     = next-by v os call fine ∙ ap (λ (x : Option ℕ). joined (areaOf v os) g (outcomeBy x (v .session) g)) passes ∙ n .0 ∙ ap (λ (x : Paper). areaOf x (os ++ (o ∷ []))) d in
-    let rest = ended ks (app S L) h c (heldNext p a (q .inputs) (q .peeked)) (os ++ (o ∷ [])) (finish-wf S t h c a D (finishEvent (keyboardOf (q .inputs)) (heldIn p) (waitOf a) (q .peeked)) w)
+    let rest = ended ks (app S L) h c (heldNext p a (q .inputs) (q .peeked)) (os ++ (o ∷ [])) (finish-wf S t h c a D (finishEvent (keyboardOf (q .inputs)) (breakTableOf (q .inputs)) (heldIn p) (waitOf a) (q .peeked)) w)
     (subst (λ (x : Paper). Keeps (x .session)) d (n .1 .keeps)) (r .1) (f .1) (rw (tokens-app S L) (omega arith)) in
     record {
       handed-out = rest .handed-out;

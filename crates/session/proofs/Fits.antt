@@ -14,7 +14,7 @@ use Rattle.area.specs.Bytes.{Bytes}
 use Rattle.area.proofs.Pick.{chosen}
 use Rattle.text.specs.Unicode.{Units}
 use Rattle.text.specs.Message.{charUnits}
-use Rattle.text.specs.Pieces.{severalIn}
+use Rattle.segmentation.specs.Table.{Table}
 use Rattle.text.proofs.Message.{char-units}
 use Rattle.keys.specs.Places.{numLock, pause}
 use Rattle.keys.specs.Text.{FullKey}
@@ -33,7 +33,7 @@ use Rattle.session.specs.Limits.{ENTRIES-MOST, UNITS-MOST, TEXT-MOST, KE
 use Rattle.session.specs.Given.{Inputs}
 use Rattle.session.specs.Event.{Event, Info, Held}
 use Rattle.session.specs.Session.{optTextFits, fullKeyFits, eventFits, allFit, infoFits, unitsFit, heldFits}
-use Rattle.session.specs.Builder.{Keyboard, keyboardOf, modifiersIn, layoutKey, plainKey, codeAsKey, forcedKey, fromMessage, heldOf, withUnits, typedText, typedKey, finalize, pressEvent, deadCharEvent, controlCounts, lastText, charEvent, releaseEvent}
+use Rattle.session.specs.Builder.{Keyboard, keyboardOf, modifiersIn, layoutKey, plainKey, codeAsKey, forcedKey, fromMessage, heldOf, withUnits, typedText, typedKey, finalize, pressEvent, deadCharEvent, controlCounts, lastText, severalText, charEvent, releaseEvent}
 use Rattle.session.specs.Focus.{modifierKeys, isOther, othersFrom, focusKeys, focusKey, focusText, syntheticEvent, written, syntheticEvents, focusEvents}
 use Rattle.session.specs.declared.ElementState.{ElementState}
 use Rattle.session.specs.declared.ElementState.the-variants.{Pressed, Released}
@@ -157,22 +157,22 @@ unfolding eventFits
 event-in e a b c d f = rw (a, b, c, d, f)
 
 typed-key-fits :
-    (layout : FullKey) (scancode : ℕ) (o : Option (List ℕ)) → fullKeyFits TEXT-MOST layout ≡ true → scancode < WORD →
-    optTextFits o ≡ true → fullKeyFits TEXT-MOST (typedKey layout scancode o) ≡ true
+    (several : Bool) (layout : FullKey) (scancode : ℕ) (o : Option (List ℕ)) → fullKeyFits TEXT-MOST layout ≡ true → scancode < WORD →
+    optTextFits o ≡ true → fullKeyFits TEXT-MOST (typedKey several layout scancode o) ≡ true
 unfolding typedKey optTextFits
-typed-key-fits layout scancode none l s e = unidentified-fits TEXT-MOST scancode s
-typed-key-fits layout scancode (some t) l s e =
-    chosen (λ k. fullKeyFits TEXT-MOST k ≡ true) (severalIn t) l (character-fits TEXT-MOST t e)
+typed-key-fits several layout scancode none l s e = unidentified-fits TEXT-MOST scancode s
+typed-key-fits several layout scancode (some t) l s e =
+    chosen (λ k. fullKeyFits TEXT-MOST k ≡ true) several l (character-fits TEXT-MOST t e)
 
 finalize-fits :
-    (h : Held) (text all : Option (List ℕ)) → heldFits (some h) ≡ true → optTextFits text ≡ true →
-    optTextFits all ≡ true → eventFits (finalize h text all) ≡ true
+    (h : Held) (several : Bool) (text all : Option (List ℕ)) → heldFits (some h) ≡ true → optTextFits text ≡ true →
+    optTextFits all ≡ true → eventFits (finalize h several text all) ≡ true
 unfolding finalize
-finalize-fits h text all e t a =
+finalize-fits h several text all e t a =
     let n = info-parts (h .info) (held-parts h e .info) in
     let l = key-wider (h .info .logicalKey) (n .logical) in
-    event-in (finalize h text all) (code-fits (h .info .scancode) (n .scan))
-    (chosen (λ k. fullKeyFits TEXT-MOST k ≡ true) (h .mark) (typed-key-fits (h .info .logicalKey) (h .info .scancode) text l (n .scan) t) l)
+    event-in (finalize h several text all) (code-fits (h .info .scancode) (n .scan))
+    (chosen (λ k. fullKeyFits TEXT-MOST k ≡ true) (h .mark) (typed-key-fits several (h .info .logicalKey) (h .info .scancode) text l (n .scan) t) l)
     t a (n .plain)
 
 no-text : optTextFits none ≡ true
@@ -181,11 +181,11 @@ no-text = refl
 
 pub press-fits : (h : Held) → heldFits (some h) ≡ true → eventFits (pressEvent h) ≡ true
 unfolding pressEvent
-press-fits h e = finalize-fits h none none e no-text no-text
+press-fits h e = finalize-fits h false none none e no-text no-text
 
 pub dead-fits : (h : Held) → heldFits (some h) ≡ true → length (h .units) ≤ UNITS-MOST → eventFits (deadCharEvent h) ≡ true
 unfolding deadCharEvent
-dead-fits h e u = finalize-fits h none (typedText (h .units)) e no-text (typed-fits (h .units) u)
+dead-fits h e u = finalize-fits h false none (typedText (h .units)) e no-text (typed-fits (h .units) u)
 
 last-text-fits :
     (b : Keyboard) (h : Held) → KeyboardOk b → heldFits (some h) ≡ true → length (h .units) ≤ UNITS-MOST →
@@ -198,10 +198,10 @@ last-text-fits b h ok e u =
     (typed-fits (h .units) u)
 
 pub char-fits :
-    (b : Keyboard) (h : Held) → KeyboardOk b → heldFits (some h) ≡ true → length (h .units) ≤ UNITS-MOST →
-    eventFits (charEvent b h) ≡ true
+    (b : Keyboard) (r : Table) (h : Held) → KeyboardOk b → heldFits (some h) ≡ true → length (h .units) ≤ UNITS-MOST →
+    eventFits (charEvent b r h) ≡ true
 unfolding charEvent
-char-fits b h ok e u = finalize-fits h (lastText b h) (typedText (h .units)) e (last-text-fits b h ok e u) (typed-fits (h .units) u)
+char-fits b r h ok e u = finalize-fits h (severalText r (lastText b h)) (lastText b h) (typedText (h .units)) e (last-text-fits b h ok e u) (typed-fits (h .units) u)
 
 pub release-fits : (n : Info) → infoFits n ≡ true → eventFits (releaseEvent n) ≡ true
 unfolding releaseEvent

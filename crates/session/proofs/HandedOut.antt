@@ -80,7 +80,7 @@ module _ (q : Paper) (os : List Outcome) (c : Call) (f : Fine q) (r : Bytes (inp
   unfolding joined outcomeBy
   joined-by (some n) e = all-append Writes os (refused n ∷ []) a (tt, tt)
   joined-by none e =
-      let p = passed _ _ _ _ e in
+      let p = passed _ _ _ _ _ e in
       let l = call-leaves (q .session) (c .given) (inputs-ok (c .given) r (p .0)) (f .keeps) (p .1) in
       let w : Wrote (encodeAnswer (effectOf (q .session) (c .given) .events)) = record { events = effectOf (q .session) (c .given) .events; area = refl; most = l .most; fits = l .fits } in
       all-append Writes os (answered _ _ _ ∷ []) a (w, tt)

@@ -16,7 +16,8 @@ use Rattle.lookup.proofs.keyboard_layout.Ranges.{vkey-small, scan-small}
 use Rattle.session.specs.Limits.{OPEN-MOST, ENTRIES-MOST, TOKENS-MOST, WORD}
 use Rattle.session.specs.Given.{Message, Given, brought, finished, inputsOf}
 use Rattle.session.specs.Event.{Event, Held}
-use Rattle.session.specs.Builder.{Keyboard, keyboardOf, fromMessage, heldOf, withUnits, pressEvent, deadCharEvent, charEvent, releaseEvent, fake}
+use Rattle.segmentation.specs.Table.{Table}
+use Rattle.session.specs.Builder.{Keyboard, keyboardOf, breakTableOf, fromMessage, heldOf, withUnits, pressEvent, deadCharEvent, charEvent, releaseEvent, fake}
 use Rattle.session.specs.Focus.{focusEvents}
 use Rattle.session.specs.Session.{Wait, press, release, character, Entry, waiting, complete, Session, tokenOf, openCount, unitsWithin, eventFits, allFit, heldFits, waitFits, entryFits, entriesFit}
 use Rattle.session.specs.Calls.{Sort, keyDown, keyUp, char, deadChar, ignored, focus, sortOf, Effect, nothingDone, opening, numbered, behind, charOpened, deadCharAnswered, messageEffect, holds, moreComing, finishEvent, finishHeld, waitIn, findWait, inPlace, resolve, isFirst, drain, resolved, finishEffect, effectOf}
@@ -231,16 +232,16 @@ message-leaves ignored s b m o k q = nothing-leaves s k
 
 -- ---- a finish
 
-event-fits : (b : Keyboard) (p : Option Held) (w : Wait) (pk : Option Message) → KeyboardOk b → unitsWithin p ≡ true → heldFits p ≡ true → waitFits w ≡ true → OptFits (finishEvent b p w pk)
+event-fits : (b : Keyboard) (r : Table) (p : Option Held) (w : Wait) (pk : Option Message) → KeyboardOk b → unitsWithin p ≡ true → heldFits p ≡ true → waitFits w ≡ true → OptFits (finishEvent b r p w pk)
 unfolding finishEvent waitFits unitsWithin
-event-fits b p (press vkey l) pk o u f g =
-    let r = and-true (ltb vkey WORD) (ltb (l .scancode) 256) g in
-    let made = held-fits b vkey l o (ltb-true _ _ (r .0)) (ltb-true _ _ (r .1)) in
+event-fits b r p (press vkey l) pk o u f g =
+    let k = and-true (ltb vkey WORD) (ltb (l .scancode) 256) g in
+    let made = held-fits b vkey l o (ltb-true _ _ (k .0)) (ltb-true _ _ (k .1)) in
     pick-ok OptFits (holds pk) none _ tt
     (pick-ok OptFits (fake b (fromMessage b vkey l) pk) none (some (pressEvent (heldOf b vkey l))) tt (press-fits (heldOf b vkey l) made))
-event-fits b p (release n) pk o u f g = pick-ok OptFits (fake b n pk) none (some (releaseEvent n)) tt (release-fits n g)
-event-fits b none character pk o u f g = tt
-event-fits b (some h) character pk o u f g = pick-ok OptFits (moreComing pk) none (some (charEvent b h)) tt (char-fits b h o f (leb-true _ _ u))
+event-fits b r p (release n) pk o u f g = pick-ok OptFits (fake b n pk) none (some (releaseEvent n)) tt (release-fits n g)
+event-fits b r none character pk o u f g = tt
+event-fits b r (some h) character pk o u f g = pick-ok OptFits (moreComing pk) none (some (charEvent b r h)) tt (char-fits b r h o f (leb-true _ _ u))
 
 nothing-held : (unitsWithin none ≡ true) × (heldFits none ≡ true)
 unfolding unitsWithin heldFits
@@ -276,12 +277,12 @@ resolved-leaves false s t e h k f u =
       fits = refl;
     }
 
-found-leaves : (s : Session) (b : Keyboard) (t : ℕ) (pk : Option Message) (o : Option Wait) → KeyboardOk b → Keeps s → WaitIn o → Leaves (finishEffect s b t pk o)
+found-leaves : (s : Session) (b : Keyboard) (r : Table) (t : ℕ) (pk : Option Message) (o : Option Wait) → KeyboardOk b → Keeps s → WaitIn o → Leaves (finishEffect s b r t pk o)
 unfolding finishEffect
-found-leaves s b t pk none k q f = nothing-leaves s q
-found-leaves s b t pk (some w) k q f =
-    resolved-leaves (isFirst t (s .entries)) s t (finishEvent b (s .held) w pk) (finishHeld b (s .held) w pk) q
-    (event-fits b (s .held) w pk k (q .short) (q .press-in) f) (held-kept b (s .held) w pk k (q .short, q .press-in) f)
+found-leaves s b r t pk none k q f = nothing-leaves s q
+found-leaves s b r t pk (some w) k q f =
+    resolved-leaves (isFirst t (s .entries)) s t (finishEvent b r (s .held) w pk) (finishHeld b (s .held) w pk) q
+    (event-fits b r (s .held) w pk k (q .short) (q .press-in) f) (held-kept b (s .held) w pk k (q .short, q .press-in) f)
 
 -- ---- any call that passed its questions
 
@@ -290,4 +291,4 @@ unfolding effectOf sessionQuestions messageQuestions finishQuestions
 call-leaves s (brought i m) o k e =
     let q = passes (question5 s (sortOf m)) (question6 s (sortOf m)) (question7 s (keyboardOf i) (sortOf m)) (question8 s (keyboardOf i) (sortOf m)) (question9 s m (sortOf m)) e in
     message-leaves (sortOf m) s (keyboardOf i) m o k (record { q6 = q .0; q7 = q .1; q8 = q .2; q9 = q .3 })
-call-leaves s (finished i t pk) o k e = found-leaves s (keyboardOf i) t pk (findWait t (s .entries)) o k (find-fits t (s .entries) (k .stored))
+call-leaves s (finished i t pk) o k e = found-leaves s (keyboardOf i) (breakTableOf i) t pk (findWait t (s .entries)) o k (find-fits t (s .entries) (k .stored))

@@ -9,7 +9,8 @@ use Rattle.lookup.specs.LParam.{keyLParam, virtualKey}
 use Rattle.lookup.specs.declared.keyboard.KeyLParam.{KeyLParam}
 use Rattle.session.specs.Given.{Message, Inputs, brought, finished}
 use Rattle.session.specs.Event.{Info, Held}
-use Rattle.session.specs.Builder.{Keyboard, keyboardOf, fromMessage, heldOf, pressEvent, charEvent, releaseEvent, fake}
+use Rattle.segmentation.specs.Table.{Table}
+use Rattle.session.specs.Builder.{Keyboard, keyboardOf, breakTableOf, fromMessage, heldOf, pressEvent, charEvent, releaseEvent, fake}
 use Rattle.session.specs.Focus.{focusEvents}
 use Rattle.session.specs.Session.{Wait, press, release, character, Session}
 use Rattle.session.specs.Calls.{keyDown, keyUp, char, deadChar, ignored, focus, sortOf, nothingDone, opening, behind, charOpened, deadCharAnswered, messageEffect, holds, moreComing, finishEvent, finishHeld, findWait, isFirst, resolved, finishEffect, effectOf}
@@ -23,7 +24,7 @@ effect-brought s i m = refl
 
 pub effect-finished :
     (s : Session) (i : Inputs) (t : ℕ) (p : Option Message) →
-    effectOf s (finished i t p) ≡ finishEffect s (keyboardOf i) t p (findWait t (s .entries))
+    effectOf s (finished i t p) ≡ finishEffect s (keyboardOf i) (breakTableOf i) t p (findWait t (s .entries))
 unfolding effectOf
 effect-finished s i t p = refl
 
@@ -60,32 +61,32 @@ ignored-effect s b m = refl
 -- ---- a finish
 
 pub finish-found :
-    (s : Session) (b : Keyboard) (t : ℕ) (p : Option Message) (w : Wait) →
-    finishEffect s b t p (some w) ≡ resolved (isFirst t (s .entries)) s t (finishEvent b (s .held) w p) (finishHeld b (s .held) w p)
+    (s : Session) (b : Keyboard) (r : Table) (t : ℕ) (p : Option Message) (w : Wait) →
+    finishEffect s b r t p (some w) ≡ resolved (isFirst t (s .entries)) s t (finishEvent b r (s .held) w p) (finishHeld b (s .held) w p)
 unfolding finishEffect
-finish-found s b t p w = refl
+finish-found s b r t p w = refl
 
-pub finish-lost : (s : Session) (b : Keyboard) (t : ℕ) (p : Option Message) → finishEffect s b t p none ≡ nothingDone s
+pub finish-lost : (s : Session) (b : Keyboard) (r : Table) (t : ℕ) (p : Option Message) → finishEffect s b r t p none ≡ nothingDone s
 unfolding finishEffect
-finish-lost s b t p = refl
+finish-lost s b r t p = refl
 
 pub event-press :
-    (b : Keyboard) (h : Option Held) (vkey : ℕ) (l : KeyLParam) (p : Option Message) →
-    finishEvent b h (press vkey l) p ≡ pick (holds p) none (pick (fake b (fromMessage b vkey l) p) none (some (pressEvent (heldOf b vkey l))))
+    (b : Keyboard) (r : Table) (h : Option Held) (vkey : ℕ) (l : KeyLParam) (p : Option Message) →
+    finishEvent b r h (press vkey l) p ≡ pick (holds p) none (pick (fake b (fromMessage b vkey l) p) none (some (pressEvent (heldOf b vkey l))))
 unfolding finishEvent
-event-press b h vkey l p = refl
+event-press b r h vkey l p = refl
 
-pub event-release : (b : Keyboard) (h : Option Held) (n : Info) (p : Option Message) → finishEvent b h (release n) p ≡ pick (fake b n p) none (some (releaseEvent n))
+pub event-release : (b : Keyboard) (r : Table) (h : Option Held) (n : Info) (p : Option Message) → finishEvent b r h (release n) p ≡ pick (fake b n p) none (some (releaseEvent n))
 unfolding finishEvent
-event-release b h n p = refl
+event-release b r h n p = refl
 
-pub event-none : (b : Keyboard) (p : Option Message) → finishEvent b none character p ≡ none
+pub event-none : (b : Keyboard) (r : Table) (p : Option Message) → finishEvent b r none character p ≡ none
 unfolding finishEvent
-event-none b p = refl
+event-none b r p = refl
 
-pub event-char : (b : Keyboard) (h : Held) (p : Option Message) → finishEvent b (some h) character p ≡ pick (moreComing p) none (some (charEvent b h))
+pub event-char : (b : Keyboard) (r : Table) (h : Held) (p : Option Message) → finishEvent b r (some h) character p ≡ pick (moreComing p) none (some (charEvent b r h))
 unfolding finishEvent
-event-char b h p = refl
+event-char b r h p = refl
 
 pub held-press : (b : Keyboard) (h : Option Held) (vkey : ℕ) (l : KeyLParam) (p : Option Message) → finishHeld b h (press vkey l) p ≡ pick (holds p) (some (heldOf b vkey l)) none
 unfolding finishHeld

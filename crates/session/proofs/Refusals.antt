@@ -4,7 +4,7 @@ use mathlib.Core.Path.{_≡_, refl, ap, sym, _∙_, subst}
 use mathlib.Core.Bool.{Bool, true, false}
 use mathlib.Core.List.{List, [], _∷_, _++_}
 use mathlib.Core.Option.{Option, some, none}
-use Prim.Native.Nat.{ℕ, suc, _≤_}
+use Prim.Native.Nat.{ℕ, suc}
 use native.Mathlib.Omega.{arith}
 use lib.ListN.{length}
 use Rattle.session.specs.Given.{Message, Inputs, Given, finished}
@@ -15,12 +15,12 @@ use Rattle.session.specs.Answers.{Outcome, refused, answered, questions,
 use Rattle.session.specs.Book.{Arrival, Press, bookStep}
 use Rattle.session.specs.Run.{Call, State, Closing, joined, next}
 use Rattle.session.specs.Demand3.{WellFormed, Answered}
-use Rattle.session.specs.Refusals.{TokensOpen, TookNoPart, RefusedForInputs, AnsweredAgain}
+use Rattle.session.specs.Refusals.{TokensOpen, TookNoPart, ofInputs, RefusedForInputs, AnsweredAgain}
 use Rattle.session.proofs.Area.{session-back}
 use Rattle.session.proofs.Queue.{Done, Stack, base, push, openedOf, tokensOf, Wf}
 use Rattle.session.proofs.Steps.{Paper, view}
 use Rattle.session.proofs.Kept.{Keeps}
-use Rattle.session.proofs.Runs.{view-session, asked}
+use Rattle.session.proofs.Runs.{view-session, early, asked}
 use Rattle.session.proofs.Demand3.{latest-passes, closing-passes}
 use Rattle.session.proofs.Corollaries.{Reached, reached}
 
@@ -59,13 +59,14 @@ head (t ∷ ts) = t
 none-open : (t : ℕ) (ts : List ℕ) → [] ≡ t ∷ ts → ⊥
 none-open t ts e = let z : 0 ≡ suc (length ts) = ap length e in omega arith
 
--- of five questions of which the last two are passed the first no is among the others
-early : (a b c : Bool) (n : ℕ) (qs : List (ℕ × Bool)) → firstNo qs ≡ none → firstNo ((1, a) ∷ (2, b) ∷ (3, c) ∷ (4, true) ∷ qs) ≡ some n → n ≤ 3
-unfolding firstNo
-early false b c n qs k e = let h : 1 ≡ n = cc in omega arith
-early true false c n qs k e = let h : 2 ≡ n = cc in omega arith
-early true true false n qs k e = let h : 3 ≡ n = cc in omega arith
-early true true true n qs k e = absurd (let z : _≡_ {A = ℕ} 0 1 = cc in omega arith)
+-- where 4 and all behind it are passed, the first no is among those that are put to inputs
+of-inputs : (a b c d : Bool) (n : ℕ) (qs : List (ℕ × Bool)) → firstNo qs ≡ none → firstNo (early a b c d qs) ≡ some n → ofInputs n ≡ true
+unfolding firstNo ofInputs
+of-inputs false b c d n qs k e = let h : 1 ≡ n = cc in rw (sym h) refl
+of-inputs true false c d n qs k e = let h : 2 ≡ n = cc in rw (sym h) refl
+of-inputs true true false d n qs k e = let h : 3 ≡ n = cc in rw (sym h) refl
+of-inputs true true true false n qs k e = let h : 11 ≡ n = cc in rw (sym h) refl
+of-inputs true true true true n qs k e = absurd (let z : _≡_ {A = ℕ} 0 1 = cc in omega arith)
 
 number-of : (o : Option ℕ) (s : Session) (g : Given) (n : ℕ) → outcomeBy o s g ≡ refused n → o ≡ some n
 unfolding outcomeBy
@@ -74,12 +75,12 @@ number-of (some m) s g n e = let h : m ≡ n = cc in ap (λ (x : ℕ). some x) h
 
 for-inputs :
     (S : Stack) (h c : ℕ) (q : Option Press) (t : ℕ) (ts : List ℕ) (i : Inputs) (p : Option Message) (y : List ℕ) (n : ℕ) → Wf c h S → Keeps (view S h c q .session) →
-    tokensOf S ≡ t ∷ ts → outcomeOf (encode (view S h c q .session)) y (finished i t p) ≡ refused n → n ≤ 3
+    tokensOf S ≡ t ∷ ts → outcomeOf (encode (view S h c q .session)) y (finished i t p) ≡ refused n → ofInputs n ≡ true
 for-inputs (base D) h c q t ts i p y n w k e f = absurd (none-open t ts e)
 for-inputs (push S u a D) h c q t ts i p y n w k e f =
     let same : u ≡ t = ap head e in
     let passes = subst (λ (x : ℕ). firstNo (sessionQuestions (view (push S u a D) h c q .session) (finished i x p)) ≡ none) same (latest-passes S u h c a D q i p) in
-    early _ _ _ n _ passes (number-of _ _ _ n (sym (outcome-by (push S u a D) h c q y (finished i t p) w k) ∙ f))
+    of-inputs _ _ _ _ n _ passes (number-of _ _ _ n (sym (outcome-by (push S u a D) h c q y (finished i t p) w k) ∙ f))
 
 given-none : (s : Session) (g : Given) → Answered (outcomeBy none s g ∷ [])
 unfolding outcomeBy

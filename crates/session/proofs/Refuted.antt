@@ -17,11 +17,11 @@ use Rattle.lookup.proofs.keyboard_layout.Ranges.{vkey-small, scan-small, repeat
 use Rattle.session.specs.Limits.{AREA, KEYS}
 use Rattle.session.specs.Given.{Message, Inputs, Given, brought, finished, WM-KEYDOWN}
 use Rattle.session.specs.Event.{Event}
-use Rattle.session.specs.Builder.{keyboardOf, fromMessage, heldOf, finalize, fake, pressEvent}
+use Rattle.session.specs.Builder.{keyboardOf, breakTableOf, fromMessage, heldOf, finalize, fake, pressEvent}
 use Rattle.session.specs.Session.{Wait, Session, freshSession, openCount, eventFits, allFit}
 use Rattle.session.specs.Area.{encode, decode, encodeAnswer, decodeAnswer}
 use Rattle.session.specs.Calls.{Effect, sortOf, nothingDone, opening, messageEffect, holds, finishEvent, finishHeld, findWait, inPlace, resolve, isFirst, drain, resolved, finishEffect, effectOf}
-use Rattle.session.specs.Questions.{opens, newEntries, unitsAfter, question1, question2, question3, question5, question6, question7, question8, question9, firstNo, messageQuestions, sessionQuestions}
+use Rattle.session.specs.Questions.{opens, newEntries, unitsAfter, question1, question2, question3, question11, question5, question6, question7, question8, question9, firstNo, messageQuestions, sessionQuestions}
 use Rattle.session.specs.Answers.{Outcome, refused, answered, questions, outcomeBy, outcomeOf}
 use Rattle.session.specs.Book.{Arrival, Note, Book, emptyBook, pressOf, noteIn, noteUnless, bookOpen, bookMessage, makesHeld, finishPress, bookFinish, bookStep}
 use Rattle.session.specs.Run.{Call, State, Closing, start, retoken, joined, next, run, closings}
@@ -101,10 +101,10 @@ module _ (i : Inputs) (y : List ℕ) (wparam lparam : ℕ) where
   press-answered = refl
 
   press-passes : WellFormed closing → firstNo (asked fresh opened) ≡ none
-  unfolding firstNo question1 question2 question3
+  unfolding firstNo question1 question2 question3 question11
   press-passes f =
       let b = session-back freshSession (fine-session fresh start-fine) in
-      rw (eq-eqb (length (encode freshSession)) AREA (b .0), eq-eqb (length y) AREA (f .answers), eq-eqb (length (i .keyState)) KEYS (f .keyState), f .block) press-answered
+      rw (eq-eqb (length (encode freshSession)) AREA (b .0), eq-eqb (length y) AREA (f .answers), eq-eqb (length (i .keyState)) KEYS (f .keyState), f .block, f .table) press-answered
 
   press-done : done fresh (brought i keyPress) (effectOf freshSession (brought i keyPress)) ≡ between
   unfolding done retoken effectOf messageEffect opening sortOf assoc bookStep bookMessage bookOpen emptyBook freshSession waitOf
@@ -201,7 +201,7 @@ clean-refuted i y wparam lparam f bytes closed k = nothing-refuted i y wparam lp
 -- late: the first entry's event waits in the queue as any other's
 abbrev pub waitingOn : Session → Inputs → ℕ → Option Message → Option Wait → Effect
 waitingOn s i t p none = nothingDone s
-waitingOn s i t p (some w) = resolved false s t (finishEvent (keyboardOf i) (s .held) w p) (finishHeld (keyboardOf i) (s .held) w p)
+waitingOn s i t p (some w) = resolved false s t (finishEvent (keyboardOf i) (breakTableOf i) (s .held) w p) (finishHeld (keyboardOf i) (s .held) w p)
 
 abbrev pub late : Session → Given → Effect
 late s (brought i m) = effectOf s (brought i m)
@@ -263,10 +263,10 @@ module _ (i : Inputs) (y : List ℕ) (wparam : ℕ) where
   inner-answered = refl
 
   inner-passes : WellFormed (closing i y wparam 0) → Fine outerOpen → firstNo (asked outerOpen (record { given = brought i inner; answers = y })) ≡ none
-  unfolding firstNo question1 question2 question3
+  unfolding firstNo question1 question2 question3 question11
   inner-passes f fine =
       let b = session-back (outerOpen .session) (fine-session outerOpen fine) in
-      rw (eq-eqb (length (encode (outerOpen .session))) AREA (b .0), eq-eqb (length y) AREA (f .answers), eq-eqb (length (i .keyState)) KEYS (f .keyState), f .block) inner-answered
+      rw (eq-eqb (length (encode (outerOpen .session))) AREA (b .0), eq-eqb (length y) AREA (f .answers), eq-eqb (length (i .keyState)) KEYS (f .keyState), f .block, f .table) inner-answered
 
   inner-done : done outerOpen (brought i inner) (effectOf (outerOpen .session) (brought i inner)) ≡ bothOpen
   unfolding done retoken effectOf messageEffect opening sortOf assoc bookStep bookMessage bookOpen waitOf
@@ -371,7 +371,7 @@ earlyOn s i t p none = nothingDone s
 earlyOn s i t p (some w) =
     record {
       token = none;
-      events = drain (inPlace t (finishEvent (keyboardOf i) (s .held) w p) []);
+      events = drain (inPlace t (finishEvent (keyboardOf i) (breakTableOf i) (s .held) w p) []);
       after = record { handed = s .handed; entries = resolve t none (s .entries); held = finishHeld (keyboardOf i) (s .held) w p };
     }
 

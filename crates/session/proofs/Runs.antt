@@ -15,7 +15,7 @@ use Rattle.session.specs.Builder.{keyboardOf}
 use Rattle.session.specs.Session.{Session, freshSession, openCount, unitsWithin, inOrder, entriesFit, heldFits, isSession}
 use Rattle.session.specs.Area.{encode, encodeAnswer}
 use Rattle.session.specs.Calls.{Effect, effectOf}
-use Rattle.session.specs.Questions.{question1, question2, question3, firstNo, messageQuestions, finishQuestions, sessionQuestions}
+use Rattle.session.specs.Questions.{question1, question2, question3, question11, firstNo, messageQuestions, finishQuestions, sessionQuestions}
 use Rattle.session.specs.Answers.{Outcome, refused, answered, questions, outcomeBy, outcomeOf}
 use Rattle.session.specs.Book.{Press, emptyBook, bookStep}
 use Rattle.session.specs.Run.{Call, State, start, joined, next, run, CallsInRange}
@@ -76,19 +76,25 @@ unfolding sessionQuestions messageQuestions finishQuestions
 session-above s (brought i m) = (omega arith, (omega arith, (omega arith, (omega arith, (omega arith, tt)))))
 session-above s (finished i t p) = (omega arith, tt)
 
-not-four : (a b c : Bool) (n : ℕ) (qs : List (ℕ × Bool)) → All (λ (q : ℕ × Bool). 4 < q .0) qs → firstNo ((1, a) ∷ (2, b) ∷ (3, c) ∷ (4, true) ∷ qs) ≡ some n → n ≡ 4 → ⊥
-unfolding firstNo
-not-four false b c n qs k e = λ f. let h : 1 ≡ n = cc in omega arith
-not-four true false c n qs k e = λ f. let h : 2 ≡ n = cc in omega arith
-not-four true true false n qs k e = λ f. let h : 3 ≡ n = cc in omega arith
-not-four true true true n qs k e = λ f. omega (arith, first-above n 4 qs k e)
+-- the questions that are put to every call, 4 being passed
+abbrev pub early : Bool → Bool → Bool → Bool → List (ℕ × Bool) → List (ℕ × Bool)
+early a b c d qs = (1, a) ∷ (2, b) ∷ (3, c) ∷ (11, d) ∷ (4, true) ∷ qs
 
-pub passed : (a b c : Bool) (qs : List (ℕ × Bool)) → firstNo ((1, a) ∷ (2, b) ∷ (3, c) ∷ (4, true) ∷ qs) ≡ none → (c ≡ true) × (firstNo qs ≡ none)
+not-four : (a b c d : Bool) (n : ℕ) (qs : List (ℕ × Bool)) → All (λ (q : ℕ × Bool). 4 < q .0) qs → firstNo (early a b c d qs) ≡ some n → n ≡ 4 → ⊥
 unfolding firstNo
-passed false b c qs e = (cc, cc)
-passed true false c qs e = (cc, cc)
-passed true true false qs e = (cc, cc)
-passed true true true qs e = (refl, e)
+not-four false b c d n qs k e = λ f. let h : 1 ≡ n = cc in omega arith
+not-four true false c d n qs k e = λ f. let h : 2 ≡ n = cc in omega arith
+not-four true true false d n qs k e = λ f. let h : 3 ≡ n = cc in omega arith
+not-four true true true false n qs k e = λ f. let h : 11 ≡ n = cc in omega arith
+not-four true true true true n qs k e = λ f. omega (arith, first-above n 4 qs k e)
+
+pub passed : (a b c d : Bool) (qs : List (ℕ × Bool)) → firstNo (early a b c d qs) ≡ none → (c ≡ true) × (firstNo qs ≡ none)
+unfolding firstNo
+passed false b c d qs e = (cc, cc)
+passed true false c d qs e = (cc, cc)
+passed true true false d qs e = (cc, cc)
+passed true true true false qs e = (cc, cc)
+passed true true true true qs e = (refl, e)
 
 pub inputs-ok : (g : Given) → Bytes (inputsOf g .block) → question3 g ≡ true → KeyboardOk (keyboardOf (inputsOf g))
 unfolding question3
@@ -106,7 +112,7 @@ pub record Next (q : Paper) (os : List Outcome) (c : Call) : Type 0 where
 -- what is asked of a paper's area
 abbrev pub asked : Paper → Call → List (ℕ × Bool)
 asked q c =
-    (1, question1 (encode (q .session)) (c .answers)) ∷ (2, question2 (c .given)) ∷ (3, question3 (c .given)) ∷ (4, true) ∷ sessionQuestions (q .session) (c .given)
+    early (question1 (encode (q .session)) (c .answers)) (question2 (c .given)) (question3 (c .given)) (question11 (c .given)) (sessionQuestions (q .session) (c .given))
 
 pub next-by : (q : Paper) (os : List Outcome) (c : Call) → Fine q → next (areaOf q os) c ≡ joined (areaOf q os) (c .given) (outcomeBy (firstNo (asked q c)) (q .session) (c .given))
 unfolding next outcomeOf questions
@@ -146,10 +152,10 @@ next-fine q os c f r = go (firstNo (asked q c)) refl
           outcome = refused n;
           fine = f;
           same = next-by q os c f ∙ ap (λ (o : Option ℕ). joined (areaOf q os) (c .given) (outcomeBy o (q .session) (c .given))) e ∙ refused-next q os (c .given) n;
-          no-four = (not-four (question1 (encode (q .session)) (c .answers)) (question2 (c .given)) (question3 (c .given)) n (sessionQuestions (q .session) (c .given)) (session-above (q .session) (c .given)) e, tt);
+          no-four = (not-four (question1 (encode (q .session)) (c .answers)) (question2 (c .given)) (question3 (c .given)) (question11 (c .given)) n (sessionQuestions (q .session) (c .given)) (session-above (q .session) (c .given)) e, tt);
         }
     go none e =
-        let p = passed (question1 (encode (q .session)) (c .answers)) (question2 (c .given)) (question3 (c .given)) (sessionQuestions (q .session) (c .given)) e in
+        let p = passed (question1 (encode (q .session)) (c .answers)) (question2 (c .given)) (question3 (c .given)) (question11 (c .given)) (sessionQuestions (q .session) (c .given)) e in
         let a = answered-next q os (c .given) f (inputs-ok (c .given) r (p .0)) (p .1) in
         record {
           paper = done q (c .given) (effectOf (q .session) (c .given));

@@ -13,7 +13,7 @@ use Rattle.text.specs.Message.{charUnits}
 use Rattle.lookup.specs.LParam.{keyLParam, virtualKey}
 use Rattle.session.specs.Given.{Message, Inputs, Given, brought, finished}
 use Rattle.session.specs.Event.{Event, Info, Held}
-use Rattle.session.specs.Builder.{Keyboard, keyboardOf, heldOf, withUnits, pressEvent, deadCharEvent, releaseEvent, fake}
+use Rattle.session.specs.Builder.{Keyboard, keyboardOf, breakTableOf, heldOf, withUnits, pressEvent, deadCharEvent, releaseEvent, fake}
 use Rattle.session.specs.Focus.{focusEvents}
 use Rattle.session.specs.Session.{Wait, press, release, character, Entry, waiting, Session, tokenOf}
 use Rattle.session.specs.Calls.{Sort, keyDown, keyUp, char, deadChar, ignored, focus, sortOf, Effect, opening, behind, charOpened, deadCharAnswered, messageEffect, moreComing, finishEvent, finishHeld, drain, resolved, finishEffect, effectOf}
@@ -112,7 +112,7 @@ held-or-noted false false os q c n e l = refl
 
 press-noted :
     (b : Book) (os : List Arrival) (a : Arrival) (i : Inputs) (pk : Option Message) →
-    finishPress b os a i pk ≡ record { opened = os; held = pick (makesHeld pk) (some (record { inputs = i; message = a .message; units = [] })) none; count = b .count; noted = noteOpt (a .number) (finishEvent (keyboardOf i) (heldIn (b .held)) (press (virtualKey (a .message .wparam)) (keyLParam (a .message .lparam))) pk) (b .noted) }
+    finishPress b os a i pk ≡ record { opened = os; held = pick (makesHeld pk) (some (record { inputs = i; message = a .message; units = [] })) none; count = b .count; noted = noteOpt (a .number) (finishEvent (keyboardOf i) (breakTableOf i) (heldIn (b .held)) (press (virtualKey (a .message .wparam)) (keyLParam (a .message .lparam))) pk) (b .noted) }
 unfolding finishPress finishEvent
 press-noted b os a i pk =
     rw (held-alike pk)
@@ -126,7 +126,7 @@ unless-noted false n e l = refl
 -- a release: the event that its entry completes, under its own number; whether it is fake, the finish's block says
 release-noted :
     (b : Book) (os : List Arrival) (a : Arrival) (i : Inputs) (pk : Option Message) →
-    finishRelease b os a i pk ≡ record { opened = os; held = b .held; count = b .count; noted = noteOpt (a .number) (finishEvent (keyboardOf i) (heldIn (b .held)) (release (infoOf (a .inputs) (a .message))) pk) (b .noted) }
+    finishRelease b os a i pk ≡ record { opened = os; held = b .held; count = b .count; noted = noteOpt (a .number) (finishEvent (keyboardOf i) (breakTableOf i) (heldIn (b .held)) (release (infoOf (a .inputs) (a .message))) pk) (b .noted) }
 unfolding finishRelease finishEvent
 release-noted b os a i pk =
     let n : Info = infoOf (a .inputs) (a .message) in
@@ -135,7 +135,7 @@ release-noted b os a i pk =
 -- a character: the held press's event, under the character's own number
 char-noted :
     (x : Bool) (p : Option Press) (b : Book) (os : List Arrival) (n : ℕ) (i : Inputs) (pk : Option Message) → moreComing pk ≡ x →
-    finishCharacter x p b os n i ≡ record { opened = os; held = pick x p none; count = b .count; noted = noteOpt n (finishEvent (keyboardOf i) (heldIn p) character pk) (b .noted) }
+    finishCharacter x p b os n i ≡ record { opened = os; held = pick x p none; count = b .count; noted = noteOpt n (finishEvent (keyboardOf i) (breakTableOf i) (heldIn p) character pk) (b .noted) }
 unfolding noteOpt finishCharacter finishEvent
 char-noted true none b os n i pk e = refl
 char-noted true (some h) b os n i pk e = rw e refl
@@ -145,12 +145,12 @@ char-noted false (some h) b os n i pk e = rw e refl
 -- what the book notes at a finish is the event that the entry completes
 book-finish :
     (b : Book) (os : List Arrival) (a : Arrival) (i : Inputs) (pk : Option Message) →
-    bookFinish b i pk (a ∷ os) ≡ record { opened = os; held = heldNext (b .held) a i pk; count = b .count; noted = noteOpt (a .number) (finishEvent (keyboardOf i) (heldIn (b .held)) (waitOf a) pk) (b .noted) }
+    bookFinish b i pk (a ∷ os) ≡ record { opened = os; held = heldNext (b .held) a i pk; count = b .count; noted = noteOpt (a .number) (finishEvent (keyboardOf i) (breakTableOf i) (heldIn (b .held)) (waitOf a) pk) (b .noted) }
 unfolding bookFinish heldNext waitOf
 book-finish b os a i pk = go (pressKind (a .message .kind)) (releaseKind (a .message .kind)) refl refl
   where
     go : (x y : Bool) → pressKind (a .message .kind) ≡ x → releaseKind (a .message .kind) ≡ y →
-        bookFinish b i pk (a ∷ os) ≡ record { opened = os; held = heldNext (b .held) a i pk; count = b .count; noted = noteOpt (a .number) (finishEvent (keyboardOf i) (heldIn (b .held)) (waitOf a) pk) (b .noted) }
+        bookFinish b i pk (a ∷ os) ≡ record { opened = os; held = heldNext (b .held) a i pk; count = b .count; noted = noteOpt (a .number) (finishEvent (keyboardOf i) (breakTableOf i) (heldIn (b .held)) (waitOf a) pk) (b .noted) }
     go true y e f = rw e (press-noted b os a i pk)
     go false true e f = rw (e, f) (release-noted b os a i pk)
     go false false e f = rw (e, f) (char-noted (moreToCome pk) (b .held) b os (a .number) i pk (more-alike pk))
@@ -220,25 +220,25 @@ later-resolved A D t n h w p q o k =
 
 finish-first :
     (D : List Done) (t n h : ℕ) (w : Wait) (p : Option Held) (i : Inputs) (pk : Option Message) →
-    effectOf (queued h (waiting t w ∷ map entryOf D) p) (finished i t pk) ≡ handsOut (map eventOf (kept t n (finishEvent (keyboardOf i) p w pk) D)) (finishHeld (keyboardOf i) p w pk)
+    effectOf (queued h (waiting t w ∷ map entryOf D) p) (finished i t pk) ≡ handsOut (map eventOf (kept t n (finishEvent (keyboardOf i) (breakTableOf i) p w pk) D)) (finishHeld (keyboardOf i) p w pk)
 unfolding effectOf finishEffect
 finish-first D t n h w p i pk =
     let s : Session = queued h (waiting t w ∷ map entryOf D) p in
-    let o : Option Event = finishEvent (keyboardOf i) p w pk in
+    let o : Option Event = finishEvent (keyboardOf i) (breakTableOf i) p w pk in
     let q : Option Held = finishHeld (keyboardOf i) p w pk in
-    ap (finishEffect s (keyboardOf i) t pk) (find-at [] (map entryOf D) t w tt)
+    ap (finishEffect s (keyboardOf i) (breakTableOf i) t pk) (find-at [] (map entryOf D) t w tt)
     ∙ ap (λ (b : Bool). resolved b s t o q) (is-first t w (map entryOf D))
     ∙ first-resolved D t n h w p q o
 
 finish-later :
     (A B : List Entry) (x : Entry) (D : List Done) (t n h : ℕ) (w : Wait) (p : Option Held) (i : Inputs) (pk : Option Message) → All (λ x. tokenOf x < t) (A ++ (x ∷ B)) →
-    effectOf (queued h ((A ++ (x ∷ B)) ++ (waiting t w ∷ map entryOf D)) p) (finished i t pk) ≡ waits h ((A ++ (x ∷ B)) ++ map entryOf (kept t n (finishEvent (keyboardOf i) p w pk) D)) (finishHeld (keyboardOf i) p w pk)
+    effectOf (queued h ((A ++ (x ∷ B)) ++ (waiting t w ∷ map entryOf D)) p) (finished i t pk) ≡ waits h ((A ++ (x ∷ B)) ++ map entryOf (kept t n (finishEvent (keyboardOf i) (breakTableOf i) p w pk) D)) (finishHeld (keyboardOf i) p w pk)
 unfolding effectOf finishEffect
 finish-later A B x D t n h w p i pk k =
     let s : Session = queued h ((A ++ (x ∷ B)) ++ (waiting t w ∷ map entryOf D)) p in
-    let o : Option Event = finishEvent (keyboardOf i) p w pk in
+    let o : Option Event = finishEvent (keyboardOf i) (breakTableOf i) p w pk in
     let q : Option Held = finishHeld (keyboardOf i) p w pk in
-    ap (finishEffect s (keyboardOf i) t pk) (find-at (A ++ (x ∷ B)) (map entryOf D) t w k)
+    ap (finishEffect s (keyboardOf i) (breakTableOf i) t pk) (find-at (A ++ (x ∷ B)) (map entryOf D) t w k)
     ∙ ap (λ (b : Bool). resolved b s t o q) (not-first A B (waiting t w ∷ map entryOf D) x t k)
     ∙ later-resolved (A ++ (x ∷ B)) D t n h w p q o k
 
@@ -246,15 +246,15 @@ pub finish-good :
     (S : Stack) (t h c : ℕ) (a : Arrival) (D : List Done) (p : Option Press) (i : Inputs) (pk : Option Message) → Wf c h (push S t a D) →
     let v : Paper = view (push S t a D) h c p in
     done v (finished i t pk) (effectOf (v .session) (finished i t pk))
-    ≡ view (app S (kept t (a .number) (finishEvent (keyboardOf i) (heldIn p) (waitOf a) pk) D)) h c (heldNext p a i pk)
+    ≡ view (app S (kept t (a .number) (finishEvent (keyboardOf i) (breakTableOf i) (heldIn p) (waitOf a) pk) D)) h c (heldNext p a i pk)
 unfolding done retoken bookStep
 finish-good (base D₀) t h c a D p i pk w =
     rw (finish-first D t (a .number) h (waitOf a) (heldIn p) i pk)
-    (rw (book-finish, note-kept D₀ D t (a .number) (finishEvent (keyboardOf i) (heldIn p) (waitOf a) pk) (all-map (λ d x. omega arith) D₀ (w .0)) (all-map (λ d x. x .0) D (w .4)), held-next p a i pk)
+    (rw (book-finish, note-kept D₀ D t (a .number) (finishEvent (keyboardOf i) (breakTableOf i) (heldIn p) (waitOf a) pk) (all-map (λ d x. omega arith) D₀ (w .0)) (all-map (λ d x. x .0) D (w .4)), held-next p a i pk)
     (simp map-append))
 finish-good (push S t' a' D') t h c a D p i pk w =
     rw (finish-later (flat S) (map entryOf D') (waiting t' (waitOf a')) D t (a .number) h (waitOf a) (heldIn p) i pk (flat-below (push S t' a' D') (a .number) t (w .0)))
-    (rw (book-finish, note-kept (dones S ++ D') D t (a .number) (finishEvent (keyboardOf i) (heldIn p) (waitOf a) pk) (all-map (λ d x. omega arith) (dones S ++ D') (dones-below (push S t' a' D') (a .number) t (w .0))) (all-map (λ d x. x .0) D (w .4)), held-next p a i pk)
+    (rw (book-finish, note-kept (dones S ++ D') D t (a .number) (finishEvent (keyboardOf i) (breakTableOf i) (heldIn p) (waitOf a) pk) (all-map (λ d x. omega arith) (dones S ++ D') (dones-below (push S t' a' D') (a .number) t (w .0))) (all-map (λ d x. x .0) D (w .4)), held-next p a i pk)
     (simp (append-nil, map-append, append-assoc)))
 
 -- ---- any call
@@ -323,8 +323,8 @@ finish-at (base D) h c p i t pk w e = absurd (let z : _≡_ {A = ℕ} 0 1 = cc i
 finish-at (push S u a D) h c p i t pk w e =
     let same : u ≡ t = sym (latest-token t (lastToken (flat S ++ (waiting u (waitOf a) ∷ map entryOf D))) u (last-at (flat S) D u (waitOf a)) e) in
     subst (λ x. Good (done (view (push S u a D) h c p) (finished i x pk) (effectOf ((view (push S u a D) h c p) .session) (finished i x pk)))) same
-    (good (app S (kept u (a .number) (finishEvent (keyboardOf i) (heldIn p) (waitOf a) pk) D)) h c (heldNext p a i pk) _
-    (finish-wf S u h c a D (finishEvent (keyboardOf i) (heldIn p) (waitOf a) pk) w)
+    (good (app S (kept u (a .number) (finishEvent (keyboardOf i) (breakTableOf i) (heldIn p) (waitOf a) pk) D)) h c (heldNext p a i pk) _
+    (finish-wf S u h c a D (finishEvent (keyboardOf i) (breakTableOf i) (heldIn p) (waitOf a) pk) w)
     (finish-good S u h c a D p i pk w))
 
 -- the questions of a call that brings a message do not matter here, those of a finish make its token the latest

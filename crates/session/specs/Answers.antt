@@ -13,7 +13,7 @@ use Rattle.session.specs.Given.{Message, Inputs, Given, brought, finishe
 use Rattle.session.specs.Session.{Session}
 use Rattle.session.specs.Area.{encode, decode, sessionOk, encodeAnswer}
 use Rattle.session.specs.Calls.{Sort, keyDown, keyUp, char, deadChar, ignored, focus, sortOf, effectOf}
-use Rattle.session.specs.Questions.{question1, question2, question3, sessionQuestions, firstNo, isHeld}
+use Rattle.session.specs.Questions.{question1, question2, question3, question11, sessionQuestions, firstNo, isHeld}
 use Rattle.session.specs.declared.ProcResult.{ProcResult}
 use Rattle.session.specs.declared.ProcResult.the-variants.{DefWindowProc, Value}
 use Rattle.session.specs.declared.Refusal.{Refusal}
@@ -34,10 +34,10 @@ pub data Outcome : Type 0 where
   refused : ℕ → Outcome
   answered : Option ℕ → List ℕ → List ℕ → Outcome
 
--- SCOPE 6.11: 1 to 4 are put to every call, 5 to 9 to calls that bring a message, 10 to finishes
+-- SCOPE 6.0: 1 to 3, 11 and 4 are put to every call, 5 to 9 to calls that bring a message, 10 to finishes
 unfoldable pub questions : List ℕ → List ℕ → Given → List (ℕ × Bool)
 questions x y g =
-    (1, question1 x y) ∷ (2, question2 g) ∷ (3, question3 g) ∷ (4, sessionOk x) ∷ sessionQuestions (decode x) g
+    (1, question1 x y) ∷ (2, question2 g) ∷ (3, question3 g) ∷ (11, question11 g) ∷ (4, sessionOk x) ∷ sessionQuestions (decode x) g
 
 -- SCOPE 6.0: an answered call writes its events, zeros behind them
 unfoldable pub outcomeBy : Option ℕ → Session → Given → Outcome
@@ -50,11 +50,12 @@ outcomeOf x y g = outcomeBy (firstNo (questions x y g)) (decode x) g
 
 -- ---- the public calls
 
--- SCOPE 6.1 to 6.10: the number of a refusal
+-- SCOPE 6.1 to 6.11: the number of a refusal
 unfoldable pub refusalNumber : Refusal → ℕ
 refusalNumber no.AreaSize = 1
 refusalNumber no.KeyStateSize = 2
 refusalNumber no.Block = 3
+refusalNumber no.Table = 11
 refusalNumber no.Session = 4
 refusalNumber no.NothingHeld = 5
 refusalNumber no.TooManyOpen = 6

@@ -12,7 +12,7 @@ use Rattle.text.specs.Message.{charUnits}
 use Rattle.lookup.specs.LParam.{keyLParam, virtualKey}
 use Rattle.session.specs.Given.{Message, Inputs, Given, brought, finished}
 use Rattle.session.specs.Event.{Event, Info, Held}
-use Rattle.session.specs.Builder.{keyboardOf, fromMessage, heldOf, withUnits, pressEvent, deadCharEvent, charEvent, releaseEvent, fake}
+use Rattle.session.specs.Builder.{keyboardOf, breakTableOf, fromMessage, heldOf, withUnits, pressEvent, deadCharEvent, charEvent, releaseEvent, fake}
 use Rattle.session.specs.Focus.{focusEvents}
 use Rattle.session.specs.declared.ElementState.the-variants.{Pressed, Released}
 
@@ -160,7 +160,7 @@ unfoldable pub finishCharacter : Bool → Option Press → Book → List Arrival
 finishCharacter true h b os n i = record { opened = os; held = h; count = b .count; noted = b .noted }
 finishCharacter false none b os n i = record { opened = os; held = none; count = b .count; noted = b .noted }
 finishCharacter false (some h) b os n i =
-    record { opened = os; held = none; count = b .count; noted = noteIn n (charEvent (keyboardOf i) (heldPress h)) (b .noted) }
+    record { opened = os; held = none; count = b .count; noted = noteIn n (charEvent (keyboardOf i) (breakTableOf i) (heldPress h)) (b .noted) }
 
 -- SCOPE 7.10: a finish takes out the last open message
 unfoldable pub bookFinish : Book → Inputs → Option Message → List Arrival → Book

@@ -8,7 +8,8 @@ use lib.Dec.{eqb}
 use Rattle.area.specs.Pick.{pick}
 use Rattle.area.specs.Look.{assoc}
 use Rattle.text.specs.Unicode.{textOf, utf8Of}
-use Rattle.text.specs.Pieces.{severalIn}
+use Rattle.segmentation.specs.Table.{Table, severalIn}
+use Rattle.segmentation.specs.Layout.{tableOf}
 use Rattle.keys.specs.Places.{control, numLock, pause}
 use Rattle.keys.specs.Text.{FullKey, named, character, unidentified, dead, deadChar, toText}
 use Rattle.keys.specs.declared.NativeKeyCode.the-variants as native
@@ -38,6 +39,10 @@ pub record Keyboard : Type 0 where
 -- the layout that the block stands for
 unfoldable pub keyboardOf : Inputs → Keyboard
 keyboardOf i = record { layout = mapsOf (i .block); keyState = i .keyState }
+
+-- the ranges that the break table stands for
+unfoldable pub breakTableOf : Inputs → Table
+breakTableOf i = tableOf (i .table)
 
 abbrev pub modifiersIn : Keyboard → WindowsModifiers
 modifiersIn k = activeModifiers (k .keyState)
@@ -112,16 +117,16 @@ typedText (u ∷ us) = textOf (u ∷ us)
 
 -- SCOPE 3.13: a typed text becomes the logical key unless it has several pieces; then the layout's key stands.
 -- SCOPE 3.6: without a text the key is unidentified, with its scan code.
-unfoldable pub typedKey : FullKey → ℕ → Option (List ℕ) → FullKey
-typedKey layout scancode none = unidentified (native.Windows scancode)
-typedKey layout scancode (some t) = pick (severalIn t) layout (character t)
+unfoldable pub typedKey : Bool → FullKey → ℕ → Option (List ℕ) → FullKey
+typedKey several layout scancode none = unidentified (native.Windows scancode)
+typedKey several layout scancode (some t) = pick several layout (character t)
 
--- the event of a press, with its text and the text with all modifiers
-unfoldable pub finalize : Held → Option (List ℕ) → Option (List ℕ) → Event
-finalize h text all =
+-- the event of a press, with its text, whether that has several pieces, and the text with all modifiers
+unfoldable pub finalize : Held → Bool → Option (List ℕ) → Option (List ℕ) → Event
+finalize h several text all =
     record {
       physicalKey = keyCodeOf (h .info .scancode);
-      logicalKey = pick (h .mark) (typedKey (h .info .logicalKey) (h .info .scancode) text) (h .info .logicalKey);
+      logicalKey = pick (h .mark) (typedKey several (h .info .logicalKey) (h .info .scancode) text) (h .info .logicalKey);
       text = text;
       location = h .info .location;
       state = Pressed;
@@ -133,11 +138,11 @@ finalize h text all =
 
 -- the event of a press that no character message follows
 unfoldable pub pressEvent : Held → Event
-pressEvent h = finalize h none none
+pressEvent h = finalize h false none none
 
 -- the event that a dead character message completes: the text that was typed before it is only that with all modifiers
 unfoldable pub deadCharEvent : Held → Event
-deadCharEvent h = finalize h none (typedText (h .units))
+deadCharEvent h = finalize h false none (typedText (h .units))
 
 -- SCOPE 3.11: at the last character Control counts, on AltGr layouts only without Alt
 unfoldable pub controlCounts : Keyboard → Bool
@@ -149,9 +154,14 @@ unfoldable pub lastText : Keyboard → Held → Option (List ℕ)
 lastText b h =
     pick (controlCounts b) (toText (layoutKey b (h .vkey) (h .info .scancode))) (typedText (h .units))
 
+-- SCOPE 3.13: whether a text has several pieces, by the break table
+unfoldable pub severalText : Table → Option (List ℕ) → Bool
+severalText r none = false
+severalText r (some t) = severalIn r t
+
 -- the event that the last character message completes. SCOPE 3.12: the text with all modifiers is the typed units'
-unfoldable pub charEvent : Keyboard → Held → Event
-charEvent b h = finalize h (lastText b h) (typedText (h .units))
+unfoldable pub charEvent : Keyboard → Table → Held → Event
+charEvent b r h = finalize h (severalText r (lastText b h)) (lastText b h) (typedText (h .units))
 
 -- a release has no texts
 unfoldable pub releaseEvent : Info → Event

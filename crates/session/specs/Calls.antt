@@ -9,10 +9,11 @@ use lib.ListN.{length}
 use Rattle.area.specs.Pick.{pick}
 use Rattle.area.specs.Look.{assoc}
 use Rattle.text.specs.Message.{charUnits}
+use Rattle.segmentation.specs.Table.{Table}
 use Rattle.lookup.specs.LParam.{keyLParam, virtualKey}
 use Rattle.session.specs.Given.{Message, Given, brought, finished, WM-SETFOCUS, WM-KILLFOCUS, WM-KEYDOWN, WM-KEYUP, WM-CHAR, WM-DEADCHAR, WM-SYSKEYDOWN, WM-SYSKEYUP, WM-SYSCHAR, WM-SYSDEADCHAR, VK-F4}
 use Rattle.session.specs.Event.{Event, Held}
-use Rattle.session.specs.Builder.{Keyboard, keyboardOf, fromMessage, heldOf, withUnits, pressEvent, deadCharEvent, charEvent, releaseEvent, fake}
+use Rattle.session.specs.Builder.{Keyboard, keyboardOf, breakTableOf, fromMessage, heldOf, withUnits, pressEvent, deadCharEvent, charEvent, releaseEvent, fake}
 use Rattle.session.specs.Focus.{focusEvents}
 use Rattle.session.specs.Session.{Wait, press, release, character, Entry, waiting, complete, Session, tokenOf}
 use Rattle.session.specs.declared.ElementState.{ElementState}
@@ -99,12 +100,12 @@ moreComing none = false
 moreComing (some m) = assoc ((WM-CHAR, true) ∷ (WM-SYSCHAR, true) ∷ []) false (m .kind)
 
 -- the event that the finish of a message gives, if any
-unfoldable pub finishEvent : Keyboard → Option Held → Wait → Option Message → Option Event
-finishEvent b h (press vkey l) p =
+unfoldable pub finishEvent : Keyboard → Table → Option Held → Wait → Option Message → Option Event
+finishEvent b r h (press vkey l) p =
     pick (holds p) none (pick (fake b (fromMessage b vkey l) p) none (some (pressEvent (heldOf b vkey l))))
-finishEvent b h (release n) p = pick (fake b n p) none (some (releaseEvent n))
-finishEvent b none character p = none
-finishEvent b (some h) character p = pick (moreComing p) none (some (charEvent b h))
+finishEvent b r h (release n) p = pick (fake b n p) none (some (releaseEvent n))
+finishEvent b r none character p = none
+finishEvent b r (some h) character p = pick (moreComing p) none (some (charEvent b r h))
 
 -- the press that is held after it
 unfoldable pub finishHeld : Keyboard → Option Held → Wait → Option Message → Option Held
@@ -149,11 +150,11 @@ resolved true s t o h =
 resolved false s t o h =
     record { token = none; events = []; after = record { handed = s .handed; entries = resolve t o (s .entries); held = h } }
 
-unfoldable pub finishEffect : Session → Keyboard → ℕ → Option Message → Option Wait → Effect
-finishEffect s b t p none = nothingDone s
-finishEffect s b t p (some w) =
-    resolved (isFirst t (s .entries)) s t (finishEvent b (s .held) w p) (finishHeld b (s .held) w p)
+unfoldable pub finishEffect : Session → Keyboard → Table → ℕ → Option Message → Option Wait → Effect
+finishEffect s b r t p none = nothingDone s
+finishEffect s b r t p (some w) =
+    resolved (isFirst t (s .entries)) s t (finishEvent b r (s .held) w p) (finishHeld b (s .held) w p)
 
 unfoldable pub effectOf : Session → Given → Effect
 effectOf s (brought i m) = messageEffect s (keyboardOf i) m (sortOf m)
-effectOf s (finished i t p) = finishEffect s (keyboardOf i) t p (findWait t (s .entries))
+effectOf s (finished i t p) = finishEffect s (keyboardOf i) (breakTableOf i) t p (findWait t (s .entries))

@@ -7,17 +7,19 @@ use mathlib.Core.List.{List, [], _∷_, map}
 use mathlib.Core.Option.{none}
 use lib.ListN.{length}
 use Rattle.session.specs.Limits.{AREA, KEYS}
+use Rattle.segmentation.specs.Layout.{tableOk}
 use Rattle.lookup.specs.Block.{blockOk}
 use Rattle.session.specs.Area.{decode, sessionOk}
 use Rattle.session.specs.Answers.{Outcome, refused, answered, freshArea}
 use Rattle.session.specs.Book.{Note}
 use Rattle.session.specs.Run.{Call, State, Closing, start, run, closings, CallsInRange, ClosingsInRange}
 
--- SCOPE 7.4: inputs are well-formed where they pass every question that is put to inputs alone, 1 to 3
+-- SCOPE 7.4: inputs are well-formed where they pass every question that is put to inputs alone, 1 to 3 and 11
 pub record WellFormed (k : Closing) : Type 0 where
   pub answers : length (k .answers) ≡ AREA
   pub keyState : length (k .inputs .keyState) ≡ KEYS
   pub block : blockOk (k .inputs .block) ≡ true
+  pub table : tableOk (k .inputs .table) ≡ true
 
 abbrev pub AllWellFormed : List Closing → Type 0
 AllWellFormed [] = Unit {0}

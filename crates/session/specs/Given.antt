@@ -10,10 +10,11 @@ pub record Message : Type 0 where
   pub wparam : ℕ
   pub lparam : ℕ
 
--- SCOPE 2.2: each half also takes the key state, 256 bytes, and a layout block
+-- SCOPE 2.2: each half also takes the key state, 256 bytes, a layout block and a break table
 pub record Inputs : Type 0 where
   pub keyState : List ℕ
   pub block : List ℕ
+  pub table : List ℕ
 
 -- SCOPE 2.2: an open takes a message, a finish the token of an open message and the peeked message or its absence
 pub data Given : Type 0 where

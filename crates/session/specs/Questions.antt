@@ -8,6 +8,7 @@ use lib.Dec.{eqb, ltb, leb}
 use lib.ListN.{length}
 use Rattle.area.specs.Pick.{pick}
 use Rattle.text.specs.Message.{charUnits}
+use Rattle.segmentation.specs.Layout.{tableOk}
 use Rattle.lookup.specs.Block.{blockOk}
 use Rattle.session.specs.Limits.{AREA, KEYS, OPEN-MOST, ENTRIES-MOST, TOKENS-MOST, UNITS-MOST}
 use Rattle.session.specs.Given.{Message, Given, brought, finished, inputsOf}
@@ -36,7 +37,7 @@ abbrev pub behindSome : List Entry → ℕ → ℕ
 behindSome [] n = 0
 behindSome (x ∷ r) n = n
 
--- how many entries, and so many tokens, it needs. SCOPE 6.11: focus on an empty queue needs none
+-- how many entries, and so many tokens, it needs. SCOPE 6.0: focus on an empty queue needs none
 unfoldable pub newEntries : Session → Keyboard → Sort → ℕ
 newEntries s b keyDown = 1
 newEntries s b keyUp = 1
@@ -83,6 +84,10 @@ question2 g = eqb (length (inputsOf g .keyState)) KEYS
 unfoldable pub question3 : Given → Bool
 question3 g = blockOk (inputsOf g .block)
 
+-- SCOPE 6.11: the break table is at most 65,536 bytes and laid out as docs/AREAS.md says
+unfoldable pub question11 : Given → Bool
+question11 g = tableOk (inputsOf g .table)
+
 -- SCOPE 6.5: for 103 and 107, a press is held
 unfoldable pub question5 : Session → Sort → Bool
 question5 s deadChar = isHeld (s .held)
@@ -118,7 +123,7 @@ unfoldable pub firstNo : List (ℕ × Bool) → Option ℕ
 firstNo [] = none
 firstNo (q ∷ qs) = pick (q .1) (firstNo qs) (some (q .0))
 
--- SCOPE 6.11: 5 to 9 are put to calls that bring a message, 10 to finishes
+-- SCOPE 6.0: 5 to 9 are put to calls that bring a message, 10 to finishes
 unfoldable pub messageQuestions : Session → Keyboard → Message → Sort → List (ℕ × Bool)
 messageQuestions s b m k =
     (5, question5 s k) ∷ (6, question6 s k) ∷ (7, question7 s b k) ∷ (8, question8 s b k) ∷ (9, question9 s m k) ∷ []

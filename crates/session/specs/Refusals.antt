@@ -1,9 +1,11 @@
 -- What a refusal leaves, and what demand 3 has closings for.
 -- Assumes nothing.
 use mathlib.Core.Path.{_≡_}
-use Prim.Native.Nat.{ℕ, _≤_}
+use mathlib.Core.Bool.{Bool, true, _||_}
+use Prim.Native.Nat.{ℕ}
 use mathlib.Core.List.{List, [], _∷_, _++_}
 use mathlib.Core.Option.{Option}
+use lib.Dec.{eqb}
 use lib.ListN.{length}
 use Rattle.session.specs.Given.{Message, Inputs, finished}
 use Rattle.session.specs.Answers.{Outcome, refused, outcomeOf}
@@ -24,13 +26,17 @@ TookNoPart =
     (st : State) (c : Call) (n : ℕ) → outcomeOf (st .area) (c .answers) (c .given) ≡ refused n →
     next st c ≡ record { area = st .area; tokens = st .tokens; book = st .book; out = st .out; outcomes = st .outcomes ++ (refused n ∷ []) }
 
--- The finish of the latest open message is refused for its inputs alone, with 1, 2 or 3.
+-- the numbers of the questions that are put to inputs alone (SCOPE 7.4)
+unfoldable pub ofInputs : ℕ → Bool
+ofInputs n = eqb n 1 || (eqb n 2 || (eqb n 3 || eqb n 11))
+
+-- The finish of the latest open message is refused for its inputs alone, with 1, 2, 3 or 11.
 abbrev pub RefusedForInputs : Type 0
 RefusedForInputs =
     (cs : List Call) (t : ℕ) (ts : List ℕ) → CallsInRange cs →
     let st : State = run start cs in
     st .tokens ≡ t ∷ ts →
-    (i : Inputs) (p : Option Message) (y : List ℕ) (n : ℕ) → outcomeOf (st .area) y (finished i t p) ≡ refused n → n ≤ 3
+    (i : Inputs) (p : Option Message) (y : List ℕ) (n : ℕ) → outcomeOf (st .area) y (finished i t p) ≡ refused n → ofInputs n ≡ true
 
 -- Brought again with inputs in order it is answered, on the same area.
 abbrev pub AnsweredAgain : Type 0

@@ -104,11 +104,12 @@ pub enum ProcResult {
 // SCOPE 10.6: tao's PendingMessageToken, a number of its own type, so that no place in the queue can be passed for it.
 pub struct PendingMessageToken(pub u32);
 
-// SCOPE 6.1 to 6.10: why a call is refused, in the order of the questions.
+// SCOPE 6.1 to 6.11: why a call is refused, in the order of the questions: 11, of the break table, stands behind 3.
 pub enum Refusal {
     AreaSize,
     KeyStateSize,
     Block,
+    Table,
     Session,
     NothingHeld,
     TooManyOpen,

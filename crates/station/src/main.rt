@@ -9,7 +9,7 @@
 //   finish T K W L     the same with a message peeked
 //   card               shows the digits since the last card
 //
-// Numbers are hexadecimal.
+// Numbers are hexadecimal. The break table of all calls is unicode.breaks, Unicode 15.0's.
 use libc::STDIN_FILENO;
 use lines::Message;
 use lines::behind;
@@ -257,6 +257,7 @@ fn bring(
     card: &mut [u8; 256],
     state: &[u8; 256],
     block: &[u8],
+    table: &[u8],
     m: Message,
 ) {
     text(b"message ");
@@ -268,6 +269,7 @@ fn bring(
         answers,
         state,
         block,
+        table,
         kind,
         m.wparam,
         m.lparam,
@@ -310,6 +312,7 @@ fn end(
     card: &mut [u8; 256],
     state: &[u8; 256],
     block: &[u8],
+    table: &[u8],
     token: u32,
     peeked: Peeked,
 ) {
@@ -317,7 +320,7 @@ fn end(
     hex(token as u64, 1);
     show_peeked(peeked);
     let t = PendingMessageToken(token);
-    let a = message::finish(session, answers, state, block, t, peeked);
+    let a = message::finish(session, answers, state, block, table, t, peeked);
     let s = show::said_by_finish(a);
     if s.what == 0 {
         show_refused(s.number);
@@ -348,6 +351,7 @@ fn make_call(
     card: &mut [u8; 256],
     state: &[u8; 256],
     block: &[u8],
+    table: &[u8],
     line: &[u8],
 ) {
     if byte_at(line, 0) == b'm' {
@@ -358,6 +362,7 @@ fn make_call(
             card,
             state,
             block,
+            table,
             message_at(line, 7),
         );
         return;
@@ -365,7 +370,17 @@ fn make_call(
     let t = number_at(line, 6);
     let token = (t.value % 0x1_0000_0000) as u32;
     let peeked = peeked_at(line, t.next);
-    end(names, session, answers, card, state, block, token, peeked);
+    end(
+        names,
+        session,
+        answers,
+        card,
+        state,
+        block,
+        table,
+        token,
+        peeked,
+    );
 }
 
 // A line that makes no call.
@@ -409,7 +424,14 @@ fn block_of<'a>(layout: u64, us: &'a [u8], flagged: &'a [u8], accent: &'a [u8]) 
     accent
 }
 
-fn shift<'a>(names: &[u8], us: &'a [u8], flagged: &'a [u8], accent: &'a [u8], input: &[u8]) {
+fn shift<'a>(
+    names: &[u8],
+    us: &'a [u8],
+    flagged: &'a [u8],
+    accent: &'a [u8],
+    table: &[u8],
+    input: &[u8],
+) {
     let mut session = io::large_buffer();
     let mut answers = io::large_buffer();
     let mut card = [0u8; 256];
@@ -432,6 +454,7 @@ fn shift<'a>(names: &[u8], us: &'a [u8], flagged: &'a [u8], accent: &'a [u8], in
                 &mut card,
                 &state,
                 block,
+                table,
                 line,
             );
         }
@@ -442,10 +465,22 @@ fn shift<'a>(names: &[u8], us: &'a [u8], flagged: &'a [u8], accent: &'a [u8], in
 
 // ---- the files
 
-fn with_accent<'a>(names: &[u8], us: &'a [u8], flagged: &'a [u8], accent: &'a [u8]) {
+fn with_table<'a>(names: &[u8], us: &'a [u8], flagged: &'a [u8], accent: &'a [u8], table: &[u8]) {
     let mut space = io::large_buffer();
     let n = io::read_full(STDIN_FILENO, &mut space);
-    shift(names, us, flagged, accent, &space[..n]);
+    shift(names, us, flagged, accent, table, &space[..n]);
+}
+
+fn with_accent<'a>(names: &[u8], us: &'a [u8], flagged: &'a [u8], accent: &'a [u8]) {
+    let fd = os::open_read(b"unicode.breaks");
+    if fd < 0 {
+        os::fail(b"unicode.breaks");
+        return;
+    }
+    let mut space = io::large_buffer();
+    let n = io::read_full(fd, &mut space);
+    libc::close(fd);
+    with_table(names, us, flagged, accent, &space[..n]);
 }
 
 fn with_flagged<'a>(names: &[u8], us: &'a [u8], flagged: &'a [u8]) {

@@ -1,5 +1,6 @@
-// Work to be timed, by tools/bench: the first argument says what (b: the check of us.block, k: lookups in it, t: text conversions, z: scans
-// of 65,536 zeros), the second how many rounds. It prints how many passed, found a character, have a text, or found zeros.
+// Work to be timed, by tools/bench: the first argument says what (b: the check of us.block, k: lookups in it, r: the check of the ranges of
+// unicode.breaks, t: text conversions, z: scans of 65,536 zeros), the second how many rounds. It prints how many passed, found a character, have a
+// text, or found zeros.
 ghost use mathlib.Core.Bool.{true};
 ghost use mathlib.Core.Path.{_≡_};
 ghost use Prim.Native.Nat.{_≤_};
@@ -10,6 +11,7 @@ use lookup::keyboard_layout::WindowsModifiers;
 use lookup::keyboard_layout::get_key;
 use lookup::keyboard_layout::scancode_for;
 use lookup::keycode::keycode_from_scancode;
+use segmentation::break_table::table_ok;
 
 // The number that decimal digits spell; one of ten digits and more counts as 0.
 fn rounds_in(t: &[u8]) -> u64 {
@@ -34,6 +36,20 @@ fn check_one(block: &mut [u8], i: u64) -> u64
     }
     block[0] = (i % 2) as u8;
     if block_ok(block) {
+        return 1;
+    }
+    0
+}
+
+// The same of a break table. The class of its last range, which is its last byte, changes.
+fn check_table_one(table: &mut [u8], i: u64) -> u64
+    ensures { λ r. ⌜ r ≤ 1 ⌝ }
+{
+    if table.len() == 0 {
+        return 0;
+    }
+    table[table.len() - 1] = (i % 2) as u8;
+    if table_ok(table) {
         return 1;
     }
     0
@@ -108,6 +124,9 @@ fn one(what: u8, bytes: &mut [u8], i: u64) -> u64
     if what == b'b' {
         return check_one(bytes, i);
     }
+    if what == b'r' {
+        return check_table_one(bytes, i);
+    }
     if what == b't' {
         return convert_one(i);
     }
@@ -129,18 +148,18 @@ fn show(n: u64) {
     io::write_all(STDOUT_FILENO, b"\n");
 }
 
-fn run(what: u8, block: &mut [u8], rounds: u64) {
+fn run(what: u8, bytes: &mut [u8], rounds: u64) {
     if what == b'k' {
-        show(look_up(block, rounds));
+        show(look_up(bytes, rounds));
         return;
     }
-    show(repeat(what, block, rounds));
+    show(repeat(what, bytes, rounds));
 }
 
-fn run_on_block(what: u8, rounds: u64) {
-    let fd = os::open_read(b"us.block");
+fn run_on_file(what: u8, name: &[u8], rounds: u64) {
+    let fd = os::open_read(name);
     if fd < 0 {
-        os::fail(b"us.block");
+        os::fail(name);
         return;
     }
     let mut space = io::large_buffer();
@@ -165,5 +184,9 @@ fn main() {
         run_on_zeros(what, rounds);
         return;
     }
-    run_on_block(what, rounds);
+    if what == b'r' {
+        run_on_file(what, b"unicode.breaks", rounds);
+        return;
+    }
+    run_on_file(what, b"us.block", rounds);
 }

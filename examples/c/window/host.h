@@ -14,8 +14,11 @@
 
 extern uint8_t block[MAHJONGLARCH_BLOCK_MOST + 1];
 extern size_t block_len;
+extern uint8_t table[MAHJONGLARCH_TABLE_MOST + 1];
+extern size_t table_len;
 
 void read_layout(void);
+void read_table(void);
 void take_event(const uint8_t *answers, uint32_t i);
 void refused_open(UINT kind, uint32_t number);
 void stop_station(const char *call, uint32_t number);

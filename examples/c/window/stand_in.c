@@ -1,6 +1,6 @@
 /* Windows from a script, for window.c.
  *
- *     window BLOCK <SCRIPT
+ *     window BLOCK TABLE <SCRIPT
  *
  * The script's lines, with hexadecimal numbers:
  *
@@ -9,11 +9,12 @@
  *     key VK BYTE     the key state from now on: 80 the key is down, 0 it is up, 1 its lock is on
  *     at N key VK B   the same, from message N of the queue on, counted from 1
  *     at N send K W L a message that is sent to the window while message N peeks: it reaches the window procedure before the peek answers
- *     bad S N         the layout is read S times as it is, and then N times with a block that is not in order
+ *     bad block S N   the layout is read S times as it is, and then N times with a block that is not in order
+ *     bad table S N   the same of the break table
  *     run             dispatches the messages of the queue, each to the window procedure
  *     card            prints what was typed since the last card
  *
- * Exit status: 0; 1 where the station stopped or the block can't be read; 2 at a line of another form. */
+ * Exit status: 0; 1 where the station stopped or block or table can't be read; 2 at a line of another form. */
 #include <inttypes.h>
 #include <stdio.h>
 #include <stdlib.h>
@@ -25,6 +26,8 @@
 
 uint8_t block[MAHJONGLARCH_BLOCK_MOST + 1];
 size_t block_len;
+uint8_t table[MAHJONGLARCH_TABLE_MOST + 1];
+size_t table_len;
 
 static MSG queue[MOST];
 static size_t first, last;
@@ -39,8 +42,10 @@ static struct {
     unsigned key, byte;
 } changes[MOST];
 static size_t change_count, dispatched;
-static size_t whole_len;
-static unsigned good_reads, bad_reads;
+static struct lent {
+    size_t whole_len;
+    unsigned good_reads, bad_reads;
+} lent_block, lent_table;
 static char card[4096];
 static size_t card_len;
 
@@ -75,10 +80,19 @@ LRESULT DefWindowProcW(HWND window, UINT kind, WPARAM wparam, LPARAM lparam) {
     return 0;
 }
 
+/* The length that is read: where the script says so, one byte is missing. */
+static size_t read_lent(struct lent *l) {
+    if (l->good_reads > 0) l->good_reads--;
+    else if (l->bad_reads > 0) return l->bad_reads--, l->whole_len - 1;
+    return l->whole_len;
+}
+
 void read_layout(void) {
-    block_len = good_reads == 0 && bad_reads > 0 ? whole_len - 1 : whole_len;
-    if (good_reads > 0) good_reads--;
-    else if (bad_reads > 0) bad_reads--;
+    block_len = read_lent(&lent_block);
+}
+
+void read_table(void) {
+    table_len = read_lent(&lent_table);
 }
 
 /* ---- what it hands on */
@@ -132,6 +146,11 @@ static int message_at(const char *words, MSG *m) {
     return 1;
 }
 
+static int bad_reads_at(const char *words, struct lent *l) {
+    int end = 0;
+    return sscanf(words, "%u %u%n", &l->good_reads, &l->bad_reads, &end) == 2 && words[end] == '\0';
+}
+
 static int do_line(const char *line) {
     unsigned key, byte, n;
     int end = 0;
@@ -147,7 +166,8 @@ static int do_line(const char *line) {
         sent[sent_last++].at = n;
         return 1;
     }
-    if (sscanf(line, "bad %u %u%n", &key, &n, &end) == 2 && line[end] == '\0') return good_reads = key, bad_reads = n, 1;
+    if (strncmp(line, "bad block ", 10) == 0) return bad_reads_at(line + 10, &lent_block);
+    if (strncmp(line, "bad table ", 10) == 0) return bad_reads_at(line + 10, &lent_table);
     if (strcmp(line, "run") == 0) return dispatch_all(), 1;
     if (strcmp(line, "card") == 0) {
         printf("card %.*s, %s\n", (int)card_len, card, session_is_fresh() ? "the session area is a fresh one" : "the session area is in use");
@@ -158,15 +178,20 @@ static int do_line(const char *line) {
     return 0;
 }
 
+static int read_file(const char *path, uint8_t *bytes, size_t most, struct lent *l) {
+    FILE *file = fopen(path, "rb");
+    if (!file) return 0;
+    l->whole_len = fread(bytes, 1, most, file);
+    fclose(file);
+    return l->whole_len > 0;
+}
+
 int main(int argc, char **argv) {
     char line[256];
-    FILE *file = argc == 2 ? fopen(argv[1], "rb") : NULL;
-    if (!file) {
-        fprintf(stderr, "usage: window BLOCK <SCRIPT\n");
+    if (argc != 3 || !read_file(argv[1], block, sizeof block, &lent_block) || !read_file(argv[2], table, sizeof table, &lent_table)) {
+        fprintf(stderr, "usage: window BLOCK TABLE <SCRIPT\n");
         return 1;
     }
-    whole_len = fread(block, 1, sizeof block, file);
-    fclose(file);
     start_session();
     for (unsigned long n = 1; fgets(line, sizeof line, stdin); n++) {
         line[strcspn(line, "\r\n")] = '\0';

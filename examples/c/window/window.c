@@ -21,6 +21,7 @@ static void read_keyboard(UINT kind) {
             state[key] = (uint8_t)((GetAsyncKeyState(key) & 0x8000 ? 0x80 : 0) | (GetKeyState(key) & 1));
     }
     read_layout(); /* block and block_len: the layout in force */
+    read_table();  /* table and table_len: Unicode's break table, the same for every layout */
 }
 
 /* Takes the events of an answered call, before the answer area is lent again. */
@@ -30,18 +31,18 @@ static void take_events(void) {
 }
 
 /* Finishes the message of a token. A refused finish leaves its message open and everything behind it waiting, so it is brought again: with
- * refusals 1 to 3 the same token is answered once the inputs are in order. Where they can't be put in order the station stops. */
+ * refusals 1 to 3 and 11 the same token is answered once the inputs are in order. Where they can't be put in order the station stops. */
 static void finish_message(uint32_t token, const MSG *peeked) {
     uint32_t no = MAHJONGLARCH_ANSWERED;
     for (int tries = 0; tries < FINISH_TRIES; tries++) {
         read_keyboard(0);
-        no = mahjonglarch_finish(session, sizeof session, answers, sizeof answers, state, sizeof state, block, block_len, token, peeked != NULL,
-                                 peeked ? peeked->message : 0, peeked ? peeked->wParam : 0, peeked ? (uint64_t)peeked->lParam : 0);
+        no = mahjonglarch_finish(session, sizeof session, answers, sizeof answers, state, sizeof state, block, block_len, table, table_len, token,
+                                 peeked != NULL, peeked ? peeked->message : 0, peeked ? peeked->wParam : 0, peeked ? (uint64_t)peeked->lParam : 0);
         if (no == MAHJONGLARCH_ANSWERED) {
             take_events();
             return;
         }
-        if (no > MAHJONGLARCH_REFUSED_BLOCK) break;
+        if (no > MAHJONGLARCH_REFUSED_BLOCK && no != MAHJONGLARCH_REFUSED_TABLE) break;
     }
     stop_station("finish", no);
 }
@@ -49,7 +50,7 @@ static void finish_message(uint32_t token, const MSG *peeked) {
 LRESULT CALLBACK window_procedure(HWND window, UINT kind, WPARAM wparam, LPARAM lparam) {
     uint32_t token, result, no;
     read_keyboard(kind);
-    no = mahjonglarch_open(session, sizeof session, answers, sizeof answers, state, sizeof state, block, block_len, kind, wparam,
+    no = mahjonglarch_open(session, sizeof session, answers, sizeof answers, state, sizeof state, block, block_len, table, table_len, kind, wparam,
                            (uint64_t)lparam, &token, &result);
     if (no != MAHJONGLARCH_ANSWERED) {
         refused_open(kind, no); /* the message took no part in the session: a digit of it is lost unless it is brought again */

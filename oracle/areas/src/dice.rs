@@ -3,7 +3,9 @@ use crate::{
   block::TEXT_MOST,
   session::{Entry, EntryState, Held, Info, Session, UNITS},
 };
-use kbtypes::{Code, ElementState, Event, Key, LayoutSpec, Location, Native, CODE_NAMES, KEY_NAMES};
+use kbtypes::{
+  BreakRange, BreakTable, Code, ElementState, Event, Key, LayoutSpec, Location, Native, CODE_NAMES, KEY_NAMES,
+};
 
 /// A plain generator of numbers (xorshift), so that every run is the same.
 pub struct Dice(pub u64);
@@ -82,6 +84,22 @@ impl Dice {
       *list = (0..self.below(most + 1)).map(|_| (self.code(), self.key())).collect();
     }
     m
+  }
+  /// A break table of at most so many ranges, some of which follow directly.
+  pub fn table(&mut self, ranges: usize) -> BreakTable {
+    let mut ends: Vec<char> = (0..2 * ranges).map(|_| self.scalar()).collect();
+    ends.sort();
+    let mut table = BreakTable::default();
+    for two in ends.chunks_exact(2) {
+      let before = table.ranges.last().map_or(0, |r: &BreakRange| u32::from(r.last) + 1);
+      let first = if self.yes(3) { char::from_u32(before).unwrap_or(two[0]) } else { two[0] };
+      let last = if self.yes(3) { first } else { two[1].max(first) };
+      if u32::from(first) >= before {
+        let class = self.below(14) as u8;
+        table.ranges.push(BreakRange { first, last, class, pictograph: self.yes(2) });
+      }
+    }
+    table
   }
   pub fn location(&mut self) -> Location {
     [Location::Standard, Location::Left, Location::Right, Location::Numpad][self.below(4)]

@@ -1,6 +1,6 @@
-//! The ten questions of docs/SCOPE.md, 6, read plainly: the number of the first one that is answered with no.
+//! The eleven questions of docs/SCOPE.md, 6, read plainly: the number of the first one that is answered with no.
 use crate::{
-  block,
+  block, break_table,
   fields::AREA,
   session::{self, Session, ENTRIES, OPEN, TOKENS, UNITS},
 };
@@ -89,41 +89,52 @@ pub fn finish_refused_in(session: &Session, token: u32) -> Option<u32> {
   (session.latest().map(u32::from) != Some(token)).then_some(10)
 }
 
-/// Questions 1 to 4, which are put to every call: what they are about, or the number.
+/// Questions 1, 2, 3, 11 and 4, which are put to every call in this order: what they are about, or the number.
 fn inputs<'a>(
   session: &[u8],
   answers: &[u8],
   state: &'a [u8],
   block: &[u8],
+  table: &[u8],
 ) -> Result<(Session, LayoutSpec, &'a [u8; 256]), u32> {
   if session.len() != AREA || answers.len() != AREA {
     return Err(1);
   }
   let state = state.try_into().map_err(|_| 2_u32)?;
   let layout = block::decode(0, block).map_err(|_| 3_u32)?;
+  break_table::decode(table).map_err(|_| 11_u32)?;
   let session = session::decode(session).ok_or(4_u32)?;
   Ok((session, layout, state))
 }
 
 /// The questions put to a call that brings a message.
+#[allow(clippy::too_many_arguments)]
 pub fn open_refused(
   session: &[u8],
   answers: &[u8],
   state: &[u8],
   block: &[u8],
+  table: &[u8],
   kind: u32,
   wparam: u64,
   lparam: u64,
 ) -> Option<u32> {
-  match inputs(session, answers, state, block) {
+  match inputs(session, answers, state, block, table) {
     Ok((session, layout, state)) => open_refused_in(&session, &layout, state, kind, wparam, lparam),
     Err(number) => Some(number),
   }
 }
 
 /// The questions put to a finish.
-pub fn finish_refused(session: &[u8], answers: &[u8], state: &[u8], block: &[u8], token: u32) -> Option<u32> {
-  match inputs(session, answers, state, block) {
+pub fn finish_refused(
+  session: &[u8],
+  answers: &[u8],
+  state: &[u8],
+  block: &[u8],
+  table: &[u8],
+  token: u32,
+) -> Option<u32> {
+  match inputs(session, answers, state, block, table) {
     Ok((session, _, _)) => finish_refused_in(&session, token),
     Err(number) => Some(number),
   }

@@ -6,9 +6,11 @@ use tao_oracle::run_script;
 mod antt;
 pub mod boards;
 pub mod scripts;
+pub mod tables;
 
 use boards::Boards;
 use scripts::{Example, Start, Step};
+use tables::Tables;
 
 /// What a step answers.
 #[derive(Debug, PartialEq)]
@@ -102,14 +104,14 @@ fn row(e: &Example) -> String {
         format!("answered {token} {result} {}", if events == "[]" { events } else { format!("({events})") })
       }
     };
-    out += &format!("          ({}, {answer}) ∷\n", antt::step(&step.board, &step.body));
+    out += &format!("          ({}, {answer}) ∷\n", antt::step(step));
   }
   out + "          [];\n    }\n"
 }
 
 const HEAD: &str = "\
 -- Worked examples with tao 0.37.2's own answers, written by oracle/expected (oracle/README.md, not to be edited). Tokens are counted from
--- tao's last empty queue. Calls that SCOPE 6 refuses were not given to tao: it panics there (5) or has no such limit or test (6 to 10).
+-- tao's last empty queue. Calls that SCOPE 6 refuses were not given to tao: it panics there (5) or has no such limit or test (6 to 11).
 -- Assumes nothing.
 use Prim.Native.Nat.{ℕ}
 use mathlib.Core.Bool.{true, false}
@@ -132,8 +134,8 @@ use Rattle.session.specs.declared.ProcResult.the-variants.{DefWindowProc, Value
 
 /// crates/examples/specs/Expected.antt.
 pub fn output() -> String {
-  let boards = Boards::new();
-  let examples = scripts::examples(&boards);
+  let (boards, tables) = (Boards::new(), Tables::new());
+  let examples = scripts::examples(&boards, &tables);
   let mut out = HEAD.to_owned();
 
   out += "\n-- ---- keys by their names in tao's Key\n";
@@ -151,6 +153,9 @@ pub fn output() -> String {
     }
     out += &format!("\n{}", antt::board(b));
   }
+
+  out += "\n-- ---- break tables, as their bytes (docs/AREAS.md)\n";
+  tables.all().iter().for_each(|t| out += &format!("\n{}", antt::table(t)));
 
   out += "\n-- ---- the examples\n";
   examples.iter().for_each(|e| out += &format!("\n{}", row(e)));
@@ -173,7 +178,7 @@ mod tests {
 
   /// The events of an example, in order.
   fn events(name: &str) -> Vec<Event> {
-    let all = scripts::examples(&Boards::new());
+    let all = scripts::examples(&Boards::new(), &Tables::new());
     let of = |answer| match answer {
       Answer::Refused(_) => vec![],
       Answer::Answered(_, _, events) => events,
@@ -203,6 +208,8 @@ mod tests {
       ("dead-character-behind-text", unidentified, None, Some("a")),
       ("wide-surrogate", character("1"), Some("\0\0"), Some("\0\0")),
       ("several-pieces", character("1"), Some("\r\n\u{301}"), Some("\r\n\u{301}")),
+      ("conjunct", character("1"), Some("\u{915}\u{94D}\u{937}"), Some("\u{915}\u{94D}\u{937}")),
+      ("table-refused", character("1"), Some("1"), Some("1")),
     ] {
       let all_events = events(name);
       assert_eq!(
@@ -210,6 +217,31 @@ mod tests {
         (1, &key, (text, all)),
         "{name}"
       );
+    }
+  }
+
+  /// Which of an example's texts are the logical key.
+  #[test]
+  fn pieces() {
+    for (name, one) in [
+      ("one-piece", &[true, true, true][..]),
+      ("no-ranges-of-class", &[false, false]),
+      ("joined-pictographs", &[true, true]),
+      ("two-joiners", &[false, false]),
+      ("flags", &[true, false, false]),
+      ("syllables", &[true, true, false]),
+      ("around-a-letter", &[true, true, false]),
+      ("table-of-the-last-finish", &[false, true]),
+    ] {
+      let got: Vec<bool> = events(name)
+        .iter()
+        .map(|e| {
+          let text = e.text.as_deref().unwrap();
+          assert!(e.logical_key == character(text) || e.logical_key == character("1"), "{name}");
+          e.logical_key == character(text)
+        })
+        .collect();
+      assert_eq!(got, one, "{name}");
     }
   }
 

@@ -1,7 +1,7 @@
 //! Writes the data files and the expected outputs of the programs under crates/ and the worked examples of
 //! crates/examples, or compares them.
 //! tao gives every answer but those on texts, which Rust's standard library gives.
-use examples::boards;
+use examples::{boards, tables};
 use kbtypes::LayoutSpec;
 use std::{env, fs, path::Path, process::ExitCode};
 
@@ -31,10 +31,12 @@ fn files() -> Vec<File> {
     ("crates/examples/specs/Expected.antt", examples::output().into()),
     ("crates/station/data/us.block", keyboard::block(&us)),
     ("crates/station/data/accent.block", keyboard::block(&station::accent())),
+    ("crates/station/data/unicode.breaks", tables::UNICODE.into()),
     ("crates/station/data/names", station::names().into()),
     ("crates/station/stdin", shift.into()),
     ("crates/station/stdout", events.into()),
     ("crates/limits/data/one-key.block", keyboard::block(&limits())),
+    ("crates/limits/data/most.breaks", tables::most()),
     ("crates/replay/data/calls", replay.calls),
     ("crates/replay/stdout", replay.stdout.into()),
   ]

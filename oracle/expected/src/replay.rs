@@ -1,5 +1,9 @@
 //! The calls of crates/replay with tao's answers: scripts written by hand, and seeded ones.
-use crate::examples::{boards::Boards, scripts as by_hand};
+use crate::examples::{
+  boards::Boards,
+  scripts as by_hand,
+  tables::{Table, Tables},
+};
 use kbtypes::{Body, Call, Event, LayoutSpec, Slot, Snapshot};
 use std::sync::Arc;
 use tao_oracle::run_script;
@@ -10,11 +14,12 @@ mod seeded;
 
 use seeded::Seeded;
 
-/// A call, what `result` is before it, whether that is what the open before it left, and the number with which docs/SCOPE.md, 6, refuses
+/// A call with its table as bytes, what `result` is before it, whether that is what the open before it left, and the number with which docs/SCOPE.md, 6, refuses
 /// it. tao is not given a refused call.
 #[derive(Clone)]
 pub struct Step {
   pub call: Call,
+  pub table: Table,
   pub lent: Slot,
   pub handed_on: bool,
   pub refused: Option<u8>,
@@ -79,7 +84,7 @@ fn answers(script: &Script) -> Vec<Answer> {
 
 /// The worked examples' scripts, from their first call on, but for the one with 4,096 tokens: crates/limits has it.
 fn examples(lent: &mut Seeded) -> Vec<Script> {
-  let all = by_hand::examples(&Boards::new());
+  let all = by_hand::examples(&Boards::new(), &Tables::new());
   let all = all.into_iter().filter(|e| e.name != "tokens");
   all
     .map(|e| {
@@ -93,7 +98,11 @@ fn examples(lent: &mut Seeded) -> Vec<Script> {
 }
 
 fn steps(lent: &mut Seeded, steps: impl IntoIterator<Item = by_hand::Step>) -> Vec<Step> {
-  steps.into_iter().map(|s| Step { call: s.call(), lent: lent.slot(), handed_on: false, refused: s.refused }).collect()
+  let step = |s: by_hand::Step| {
+    let (call, refused) = (s.call(), s.refused);
+    Step { call, table: s.table, lent: lent.slot(), handed_on: false, refused }
+  };
+  steps.into_iter().map(step).collect()
 }
 
 /// Hands `result` on from open to open; every fourth begins with a new one. tao says what an open leaves, so it is asked until nothing changes.
@@ -205,7 +214,7 @@ mod tests {
         }
       }
     }
-    assert_eq!((refusals, depth, handed_out), ([5, 6, 7, 9, 10].into(), 8, 256));
+    assert_eq!((refusals, depth, handed_out), ([5, 6, 7, 9, 10, 11].into(), 8, 256));
 
     let reached = |test: &dyn Fn(&Event) -> bool| assert!(events.iter().any(test));
     for location in [Location::Standard, Location::Left, Location::Right, Location::Numpad] {
@@ -218,7 +227,8 @@ mod tests {
       reached(&|e| e.logical_key == Key::Unidentified(native) && !e.synthetic);
       reached(&|e| e.logical_key == Key::Unidentified(native) && e.synthetic);
     }
-    for text in ["\r\n", "e\u{301}\u{36F}", "😀", "\u{10FFFF}"] {
+    for text in ["\r\n", "e\u{301}\u{36F}", "😀", "\u{10FFFF}", "👨\u{200D}👩", "🇩🇪", "\u{1100}\u{1161}\u{11A8}"]
+    {
       reached(&|e| e.logical_key == Key::Character(text.into()) && e.text.as_deref() == Some(text));
     }
     reached(&|e| e.text.as_deref() == Some("\0\0"));

@@ -2,6 +2,7 @@
 use crate::examples::{
   boards::{Board, Boards},
   scripts::{alone, bring, lparam, press, refused, release, seeing, Step},
+  tables::unicode,
 };
 use kbtypes::{
   Body, Code, ElementState, Event, Key, LayoutSpec, Location, Native, Peeked, Slot, CODE_NAMES, KEY_NAMES,
@@ -71,7 +72,7 @@ impl Shift {
   }
 
   fn add(&mut self, steps: impl IntoIterator<Item = Step>) {
-    self.lines.extend(steps.into_iter().map(Line::Call));
+    self.lines.extend(steps.into_iter().map(|s| Line::Call(s.on(&unicode()))));
   }
 
   /// The finish of a digit's press, and its character.

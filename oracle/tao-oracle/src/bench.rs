@@ -5,7 +5,7 @@ use crate::{
   shim,
 };
 use kbtypes as t;
-use std::{cell::Cell, hint::black_box, time::Instant};
+use std::{cell::Cell, hint::black_box, sync::Arc, time::Instant};
 use windows::{
   env::Env,
   Win32::{
@@ -29,7 +29,7 @@ fn peek(msg: &mut MSG) -> bool {
 
 /// Scans the digits 0 to 9 over and over, `digits` in all: each a press, its character, its release. The press peeks the
 /// character, the character the release, the release nothing. Gives the number of events (two for each digit).
-pub fn scan(layout: &t::LayoutSpec, digits: usize) -> u64 {
+pub fn scan(layout: &t::LayoutSpec, table: &Arc<t::BreakTable>, digits: usize) -> u64 {
   install(layout);
   let tables = tables_of(layout);
   let state = [0u8; 256];
@@ -41,6 +41,7 @@ pub fn scan(layout: &t::LayoutSpec, digits: usize) -> u64 {
     to_unicode: None,
   });
   shim::set_non_char(&layout.non_char);
+  unicode_segmentation::set_table(table);
   let b = KeyEventBuilder::default();
   let hwnd = HWND(std::ptr::null_mut());
   let mut events = 0u64;
@@ -65,9 +66,9 @@ pub fn scan(layout: &t::LayoutSpec, digits: usize) -> u64 {
 }
 
 /// Runs `rounds` times ten digits. Gives nanoseconds per message and the number of events.
-pub fn scanner_burst(layout: &t::LayoutSpec, rounds: u32) -> (f64, u64) {
+pub fn scanner_burst(layout: &t::LayoutSpec, table: &Arc<t::BreakTable>, rounds: u32) -> (f64, u64) {
   let start = Instant::now();
-  let events = scan(layout, 10 * rounds as usize);
+  let events = scan(layout, table, 10 * rounds as usize);
   let ns = start.elapsed().as_nanos() as f64 / (f64::from(rounds) * 30.0);
   (ns, events)
 }
@@ -76,6 +77,6 @@ pub fn scanner_burst(layout: &t::LayoutSpec, rounds: u32) -> (f64, u64) {
 mod tests {
   #[test]
   fn every_digit_is_pressed_and_released() {
-    assert_eq!(super::scanner_burst(&kbtypes::LayoutSpec::empty(78), 7).1, 140);
+    assert_eq!(super::scanner_burst(&kbtypes::LayoutSpec::empty(78), &Default::default(), 7).1, 140);
   }
 }

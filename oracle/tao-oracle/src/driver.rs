@@ -123,6 +123,8 @@ impl<'a> Driver<'a> {
       to_unicode: None,
     });
     shim::set_non_char(&call.layout.non_char);
+    // Pieces are counted behind the peek, so the table in force is then the finish's.
+    unicode_segmentation::set_table(&call.table);
   }
 
   fn snapshot(&self) -> t::Snapshot {
@@ -310,7 +312,7 @@ mod tests {
   fn nested_events_wait() {
     let layout = Arc::new(t::LayoutSpec::empty(76));
     let state = Arc::new([0u8; 256]);
-    let call = |body| t::Call { body, state: state.clone(), layout: layout.clone() };
+    let call = |body| t::Call { body, state: state.clone(), layout: layout.clone(), table: Default::default() };
     let open = |kind, wparam, lparam| call(t::Body::Open { kind, wparam, lparam });
     let finish = |token| call(t::Body::Finish { token, peeked: None });
     let calls = [open(0x100, 0x41, 0x1E_0001), open(0x101, 0x42, 0xC030_0001), finish(1), finish(0)];

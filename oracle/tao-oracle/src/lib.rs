@@ -128,4 +128,4 @@ pub mod lookups;
 pub mod prepare;
 pub mod recording;
 pub use driver::{run_script, OracleAnswer, OracleRun};
-pub use unicode_segmentation::{set_counter, stand_in};
+pub use unicode_segmentation::{clusters, set_counter, set_table};

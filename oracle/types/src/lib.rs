@@ -117,6 +117,21 @@ impl LayoutSpec {
   }
 }
 
+/// A range of a break table: scalar values of one break class (its number, 0 to 13), pictographs or not.
+#[derive(Clone, Copy, PartialEq, Eq, Debug)]
+pub struct BreakRange {
+  pub first: char,
+  pub last: char,
+  pub class: u8,
+  pub pictograph: bool,
+}
+
+/// What the bytes of a break table stand for: ranges that rise and do not touch one another in a scalar value.
+#[derive(Clone, PartialEq, Eq, Debug, Default)]
+pub struct BreakTable {
+  pub ranges: Vec<BreakRange>,
+}
+
 #[derive(Clone, Copy, PartialEq, Eq, Debug)]
 pub struct Peeked {
   pub kind: u32,
@@ -130,19 +145,22 @@ pub enum Body {
   Finish { token: u32, peeked: Option<Peeked> },
 }
 
-/// One call: its own arguments, the key-state bytes and the layout.
+/// One call: its own arguments, the key-state bytes, the layout and the break table.
 #[derive(Clone)]
 pub struct Call {
   pub body: Body,
   pub state: Arc<[u8; 256]>,
   pub layout: Arc<LayoutSpec>,
+  pub table: Arc<BreakTable>,
 }
 
 impl fmt::Debug for Call {
   fn fmt(&self, f: &mut fmt::Formatter<'_>) -> fmt::Result {
     let down = self.state.iter().enumerate().filter(|(_, b)| **b != 0);
     let down: Vec<String> = down.map(|(i, b)| format!("{i:02X}:{b:02X}")).collect();
-    write!(f, "{:X?} layout {} altgr {} state [{}]", self.body, self.layout.id, self.layout.alt_gr, down.join(" "))
+    let (layout, ranges) = (&self.layout, self.table.ranges.len());
+    write!(f, "{:X?} layout {} altgr {} state [{}]", self.body, layout.id, layout.alt_gr, down.join(" "))?;
+    write!(f, " table of {ranges} ranges")
   }
 }
 

@@ -1,9 +1,12 @@
-//! A host as small as the tests need it. The layouts are those of crates/station: us.block is the US layout as tao prepares it.
+//! A host as small as the tests need it. The layouts are those of crates/station: us.block is the US layout as tao prepares it. The break table
+//! is Unicode's, and one of no ranges stands beside it.
 #![allow(dead_code)] // no test uses all of it
 use mahjonglarch::*;
 
 pub const US: &[u8] = include_bytes!("../../../../crates/station/data/us.block");
 pub const ACCENT: &[u8] = include_bytes!("../../../../crates/station/data/accent.block");
+pub const UNICODE: &[u8] = include_bytes!("../../../../tables/unicode-15.0.breaks");
+pub const NO_RANGES: &[u8] = &[0; 8];
 
 /// The events of tao's answers to the shift of crates/station, by their heading.
 pub fn tao_events(heading: &str) -> Vec<&'static str> {
@@ -42,6 +45,7 @@ pub struct Host {
   pub answers: Answers,
   pub state: [u8; KEY_STATE_SIZE],
   pub block: &'static [u8],
+  pub table: &'static [u8],
   pub open: Vec<Token>,
   pub events: Vec<Event>,
 }
@@ -53,6 +57,7 @@ impl Host {
       answers: Answers::new(),
       state: [0; KEY_STATE_SIZE],
       block: US,
+      table: UNICODE,
       open: vec![],
       events: vec![],
     }
@@ -66,7 +71,7 @@ impl Host {
 
   /// Brings a message: the number of the token that it opened, and the message result's change.
   pub fn open(&mut self, message: Message) -> Result<(Option<u32>, ResultChange), Refusal> {
-    let keyboard = Keyboard { state: &self.state, block: self.block };
+    let keyboard = Keyboard { state: &self.state, block: self.block, table: self.table };
     let opened = self.session.open(&mut self.answers, keyboard, message)?;
     self.events.extend(opened.events);
     let number = opened.token.as_ref().map(Token::number);
@@ -77,7 +82,7 @@ impl Host {
   /// Finishes the latest open message: how many events it handed out.
   pub fn finish(&mut self, peeked: impl Into<Peeked>) -> Result<usize, Refusal> {
     let token = self.open.pop().expect("a message is open");
-    let keyboard = Keyboard { state: &self.state, block: self.block };
+    let keyboard = Keyboard { state: &self.state, block: self.block, table: self.table };
     match self.session.finish(&mut self.answers, keyboard, token, peeked.into()) {
       Ok(events) => {
         let count = events.len();

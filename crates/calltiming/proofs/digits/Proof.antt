@@ -5,10 +5,10 @@ use Rattle.calltiming.proofs.digits.Statement.{statement}
 use Rattle.calltiming.proofs.digits.Tie as tie
 
 abbrev Inv-loop : tie.InvT-loop
-Inv-loop session₀ answers₀ state block rounds count₀ i₀ session answers count i = i ≤ rounds
+Inv-loop session₀ answers₀ state block table rounds count₀ i₀ session answers count i = i ≤ rounds
 
 abbrev μ-loop : tie.MeasureT-loop
-μ-loop session₀ answers₀ state block rounds count₀ i₀ session answers count i = rounds - i
+μ-loop session₀ answers₀ state block table rounds count₀ i₀ session answers count i = rounds - i
 
 loop-holds : tie.Need-loop-holds Inv-loop μ-loop
 loop-holds c = search needs

@@ -5,10 +5,10 @@ use Rattle.calltiming.proofs.digits_behind.Statement.{statement}
 use Rattle.calltiming.proofs.digits_behind.Tie as tie
 
 abbrev Inv-loop : tie.InvT-loop
-Inv-loop session₀ answers₀ state block rounds before count₀ i₀ session answers count i = i ≤ rounds
+Inv-loop session₀ answers₀ state block table rounds before count₀ i₀ session answers count i = i ≤ rounds
 
 abbrev μ-loop : tie.MeasureT-loop
-μ-loop session₀ answers₀ state block rounds before count₀ i₀ session answers count i = rounds - i
+μ-loop session₀ answers₀ state block table rounds before count₀ i₀ session answers count i = rounds - i
 
 fill-queue-requires : tie.Need-fill-queue-requires Inv-loop μ-loop
 fill-queue-requires c κs = search needs

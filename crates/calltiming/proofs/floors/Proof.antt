@@ -7,10 +7,10 @@ use Rattle.calltiming.proofs.floors.Statement.{statement}
 use Rattle.calltiming.proofs.floors.Tie as tie
 
 abbrev Inv-loop : tie.InvT-loop
-Inv-loop session₀ answers₀ block₀ rounds count₀ i₀ session answers block count i = (i ≤ rounds) × (length block ≡ length block₀)
+Inv-loop session₀ answers₀ block₀ table₀ rounds count₀ i₀ session answers block table count i = (i ≤ rounds) × (length block ≡ length block₀) × (length table ≡ length table₀)
 
 abbrev μ-loop : tie.MeasureT-loop
-μ-loop session₀ answers₀ block₀ rounds count₀ i₀ session answers block count i = rounds - i
+μ-loop session₀ answers₀ block₀ table₀ rounds count₀ i₀ session answers block table count i = rounds - i
 
 loop-holds : tie.Need-loop-holds Inv-loop μ-loop
 loop-holds c = search needs
@@ -33,6 +33,9 @@ loop-again c = search needs
 same-length : tie.Need-same-length Inv-loop μ-loop
 same-length c = search needs
 
+same-length-2 : tie.Need-same-length-2 Inv-loop μ-loop
+same-length-2 c = search needs
+
 returns : tie.Need-returns Inv-loop μ-loop
 returns c = search needs
 
@@ -49,4 +52,5 @@ floors-spec =
     loop-less
     loop-again
     same-length
+    same-length-2
     returns)

@@ -1,6 +1,7 @@
 -- The events of presses and releases.
 -- Assumes nothing.
 use mathlib.Core.Path.{_≡_, refl, _∙_}
+use mathlib.Core.Bool.{Bool, false}
 use mathlib.Core.Option.{none}
 use Prim.Native.Nat.{_≤_}
 use native.Mathlib.Omega.{arith}
@@ -33,12 +34,12 @@ lens n p k s text all i h₁ h₂ h₃ = record {
 
 -- a press
 pub pressed :
-    (h : HeldPress) (text all : Text) (p : KeyCode) (k : TextKey) (r : KeyEvent) → r ≡ made (h .info) p k Pressed text all →
+    (h : HeldPress) (several : Bool) (text all : Text) (p : KeyCode) (k : TextKey) (r : KeyEvent) → r ≡ made (h .info) p k Pressed text all →
     InfoLens (h .info) × (text .len ≤ TEXT-MOST) × (all .len ≤ TEXT-MOST) → p ≡ keyCodeOf (h .info .scancode) →
-    (asKey k ≡ finalize (asHeld h) (asText text) none .logicalKey) × (k .text .len ≤ TEXT-MOST) →
-    (asEvent r ≡ finalize (asHeld h) (asText text) (asText all)) × EventLens r
+    (asKey k ≡ finalize (asHeld h) several (asText text) none .logicalKey) × (k .text .len ≤ TEXT-MOST) →
+    (asEvent r ≡ finalize (asHeld h) several (asText text) (asText all)) × EventLens r
 unfolding asEvent finalize asHeld asInfo
-pressed h text all p k r m i e₁ e₂ =
+pressed h several text all p k r m i e₁ e₂ =
     rw m (rw (e₁, e₂ .0) refl, lens (h .info) p k Pressed text all (i .0) (e₂ .1) (i .1) (i .2))
 
 -- a release
@@ -53,13 +54,13 @@ released n t p r m i e h =
 
 -- a press with no text, and with that of the units before a dead character alone
 pub no-texts :
-    (h : HeldPress) (e : Event) (a b t : Text) → a ≡ t → b ≡ t → asText t ≡ none → e ≡ finalize (asHeld h) (asText a) (asText b) →
+    (h : HeldPress) (e : Event) (a b t : Text) → a ≡ t → b ≡ t → asText t ≡ none → e ≡ finalize (asHeld h) false (asText a) (asText b) →
     e ≡ pressEvent (asHeld h)
 unfolding pressEvent
 no-texts h e a b t p q n r = r ∙ rw (p, q, n) refl
 
 pub dead-text :
     (h : HeldPress) (e : Event) (a b t u : Text) → a ≡ t → b ≡ u → asText t ≡ none → asText u ≡ typedText (take (h .len) (h .units)) →
-    e ≡ finalize (asHeld h) (asText a) (asText b) → e ≡ deadCharEvent (asHeld h)
+    e ≡ finalize (asHeld h) false (asText a) (asText b) → e ≡ deadCharEvent (asHeld h)
 unfolding deadCharEvent asHeld
 dead-text h e a b t u p q n m r = r ∙ rw (p, q, n, m) refl

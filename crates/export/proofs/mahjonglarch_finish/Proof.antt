@@ -27,7 +27,7 @@ returns c =
     let finished = passed .before .before .before .before in
     let peeked = finished .before .before .before in
     let asked = peeked .before in
-    let start = asked .before .before .before .before in
+    let start = asked .before .before .before .before .before in
     finish-says _ _ _ (start .args .token) (finished .finish .ensures) refl (peeked .peeked-at .ensures) (c .finish-number .ensures)
 
 pub mahjonglarch-finish-spec : {M : Type 1} → statement M

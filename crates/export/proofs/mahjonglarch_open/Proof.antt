@@ -31,7 +31,7 @@ returns c =
     let passed = token .before in
     let opened = passed .before .before .before .before in
     let given = opened .before .before .before in
-    let a = given .before .before .before .before .args in
+    let a = given .before .before .before .before .before .args in
     open-says _ _ _ (message (a .kind) (a .wparam) (a .lparam)) (opened .«open» .ensures) refl refl (c .open-number .ensures)
     (token .token-number .ensures) (c .before .result-number .ensures)
 

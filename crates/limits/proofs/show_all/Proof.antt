@@ -6,10 +6,10 @@ use Rattle.limits.proofs.show_all.Statement.{statement}
 use Rattle.limits.proofs.show_all.Tie as tie
 
 abbrev Inv-loop : tie.InvT-loop
-Inv-loop block input session₀ answers₀ state₀ short₀ result₀ at₀ turn₀ session answers state short result at turn = turn ≤ length input
+Inv-loop block table input session₀ answers₀ state₀ short₀ result₀ at₀ turn₀ session answers state short result at turn = turn ≤ length input
 
 abbrev μ-loop : tie.MeasureT-loop
-μ-loop block input session₀ answers₀ state₀ short₀ result₀ at₀ turn₀ session answers state short result at turn = length input - turn
+μ-loop block table input session₀ answers₀ state₀ short₀ result₀ at₀ turn₀ session answers state short result at turn = length input - turn
 
 large-buffer-requires : tie.Need-large-buffer-requires Inv-loop μ-loop
 large-buffer-requires c κs = search needs

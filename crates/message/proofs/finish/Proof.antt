@@ -3,11 +3,12 @@
 use mathlib.Core.Path.{refl}
 use borrow.Author.Needs.{needs}
 use Rattle.session.specs.Area.{decode}
+use Rattle.segmentation.specs.Layout.{tableOf}
 use Rattle.event.specs.Written.{keyboardAt}
 use Rattle.queue.specs.Changed.{Does}
 use Rattle.message.specs.Peeked.{asPeeked}
 use Rattle.message.specs.Resolves.{finishedBy}
-use Rattle.message.proofs.CallAnswers.{asked-area, asked-answers, asked-block, told-done, finish-early, finish-late, finish-passed}
+use Rattle.message.proofs.CallAnswers.{asked-area, asked-answers, asked-block, asked-table, told-done, finish-early, finish-late, finish-passed}
 use Rattle.message.proofs.finish.Statement.{statement}
 use Rattle.message.proofs.finish.Tie as tie
 
@@ -18,14 +19,14 @@ given c =
     let late = passed .before .before in
     let early = late .before .before .before .before in
     let known = early .before .before .before in
-    known .before .before .before .before
+    known .before .before .before .before .before
 
 -- the message of the call's token is finished, with what the call was given as peeked
 done-in :
     (c : tie.After-finish-open) →
     let a = given c .args in
-    Does (finishedBy (decode (a .session .now)) (keyboardAt (a .state .now) (a .block .now)) (a .token .0) (asPeeked (a .peeked))) (c .finish-open .last .0) (c .finish-open .last .1 .0)
-done-in c = let a = given c .args in told-done _ _ (a .token .0) (a .peeked) (c .finish-open .ensures) (refl, refl)
+    Does (finishedBy (decode (a .session .now)) (keyboardAt (a .state .now) (a .block .now)) (tableOf (a .table .now)) (a .token .0) (asPeeked (a .peeked))) (c .finish-open .last .0) (c .finish-open .last .1 .0)
+done-in c = let a = given c .args in told-done _ _ _ (a .token .0) (a .peeked) (c .finish-open .ensures) (refl, refl)
 
 ask-areas-requires : tie.Need-ask-areas-requires
 ask-areas-requires c κs = search needs
@@ -41,14 +42,14 @@ same-length-2 c = search needs
 
 returns : tie.Need-returns
 returns c =
-    λ result. finish-early _ _ _ _ result _ _ (c .before .before .before .ask-areas .ensures) _ (c .before .early .given .1)
+    λ result. finish-early _ _ _ _ _ result _ _ (c .before .before .before .ask-areas .ensures) _ (c .before .early .given .1)
 
 enum-told : tie.Need-enum-told
 enum-told c = search needs
 
 ask-finish-requires : tie.Need-ask-finish-requires
 ask-finish-requires c κs =
-    asked-area _ _ _ _ (c .before .before .before .ask-areas .ensures) (c .before .enum-told .given .1)
+    asked-area _ _ _ _ _ (c .before .before .before .ask-areas .ensures) (c .before .enum-told .given .1)
 
 enum-known-late : tie.Need-enum-known-late
 enum-known-late c = search needs
@@ -65,7 +66,7 @@ returns-2 c =
     let told = late .before .before in
     let early = told .before .before in
     λ result.
-    finish-late _ _ _ _ result _ _ (early .ask-areas .ensures) (told .enum-told .given .1) (late .ask-finish .ensures) _ (c .before .late .given .1)
+    finish-late _ _ _ _ _ result _ _ (early .ask-areas .ensures) (told .enum-told .given .1) (late .ask-finish .ensures) _ (c .before .late .given .1)
 
 enum-told-2 : tie.Need-enum-told-2
 enum-told-2 c = search needs
@@ -76,7 +77,7 @@ finish-open-requires c κs =
     let told = late .before .before in
     let e = told .before .before .ask-areas .ensures in
     let p = told .enum-told .given .1 in
-    (asked-area _ _ _ _ e p, asked-answers _ _ _ _ e p, asked-block _ _ _ _ e p)
+    (asked-area _ _ _ _ _ e p, asked-answers _ _ _ _ _ e p, asked-block _ _ _ _ _ e p, asked-table _ _ _ _ _ e p)
 
 same-length-5 : tie.Need-same-length-5
 same-length-5 c = search needs
@@ -92,7 +93,7 @@ returns-3 c =
     let told = late .before .before in
     let early = told .before .before in
     λ result.
-    finish-passed _ _ _ _ result _ _ (early .ask-areas .ensures) (told .enum-told .given .1) (late .ask-finish .ensures) (passed .enum-told2 .given .1)
+    finish-passed _ _ _ _ _ result _ _ (early .ask-areas .ensures) (told .enum-told .given .1) (late .ask-finish .ensures) (passed .enum-told2 .given .1)
     (done-in done)
 
 pub finish-spec : {M : Type 1} → statement M

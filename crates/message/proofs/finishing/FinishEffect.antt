@@ -5,6 +5,7 @@ use mathlib.Core.Bool.{Bool, true, false, not, _&&_}
 use mathlib.Core.List.{List}
 use mathlib.Core.Option.{Option, some, none}
 use Prim.Native.Nat.{ℕ}
+use Rattle.segmentation.specs.Table.{Table}
 use Rattle.lookup.specs.declared.keyboard.KeyLParam.{KeyLParam}
 use Rattle.session.specs.Event.{Event, Info, Held}
 use Rattle.session.specs.Given.{Message}
@@ -65,59 +66,59 @@ unfolding asHeld
 info-of h = refl
 
 -- what comes of the open message of a token: o its event, if it gives one, and h the press that is held after it
-pub record Way (s : Session) (b : Keyboard) (t : ℕ) (p : Option Message) (o : Option Event) (h : Option Held) : Type 0 where
+pub record Way (s : Session) (b : Keyboard) (r : Table) (t : ℕ) (p : Option Message) (o : Option Event) (h : Option Held) : Type 0 where
   pub wait : Wait
   pub found : findWait t (s .entries) ≡ some wait
-  pub event : finishEvent b (s .held) wait p ≡ o
+  pub event : finishEvent b r (s .held) wait p ≡ o
   pub after : finishHeld b (s .held) wait p ≡ h
 
-module _ (s : Session) (b : Keyboard) (t : ℕ) (p : Option Message) where
+module _ (s : Session) (b : Keyboard) (r : Table) (t : ℕ) (p : Option Message) where
   -- ---- a press
 
   module _ (vkey : ℕ) (l : KeyLParam) (w : findWait t (s .entries) ≡ some (press vkey l)) (h : Held) (m : h ≡ heldOf b vkey l) where
     as-read : {q : Bool} → fake b (h .info) p ≡ q → fake b (fromMessage b vkey l) p ≡ q
     as-read f = ap (λ (n : Info). fake b n p) (sym (ap (λ (g : Held). g .info) m ∙ press-info b vkey l)) ∙ f
 
-    pub press-held : holds p ≡ true → Way s b t p none (some h)
+    pub press-held : holds p ≡ true → Way s b r t p none (some h)
     press-held e =
         record {
           wait = press vkey l;
           found = w;
-          event = event-press b (s .held) vkey l p ∙ rw e refl;
+          event = event-press b r (s .held) vkey l p ∙ rw e refl;
           after = held-press b (s .held) vkey l p ∙ rw e (ap some (sym m));
         }
 
-    pub press-fake : holds p ≡ false → fake b (h .info) p ≡ true → Way s b t p none none
+    pub press-fake : holds p ≡ false → fake b (h .info) p ≡ true → Way s b r t p none none
     press-fake e f =
         record {
           wait = press vkey l;
           found = w;
-          event = event-press b (s .held) vkey l p ∙ rw (e, as-read f) refl;
+          event = event-press b r (s .held) vkey l p ∙ rw (e, as-read f) refl;
           after = held-press b (s .held) vkey l p ∙ rw e refl;
         }
 
-    pub press-done : holds p ≡ false → fake b (h .info) p ≡ false → {v : Event} → v ≡ pressEvent h → Way s b t p (some v) none
+    pub press-done : holds p ≡ false → fake b (h .info) p ≡ false → {v : Event} → v ≡ pressEvent h → Way s b r t p (some v) none
     press-done e f v =
         record {
           wait = press vkey l;
           found = w;
-          event = event-press b (s .held) vkey l p ∙ rw (e, as-read f) (ap some (sym (v ∙ ap pressEvent m)));
+          event = event-press b r (s .held) vkey l p ∙ rw (e, as-read f) (ap some (sym (v ∙ ap pressEvent m)));
           after = held-press b (s .held) vkey l p ∙ rw e refl;
         }
 
   -- ---- a release
 
   module _ (n : Info) (w : findWait t (s .entries) ≡ some (release n)) where
-    pub release-fake : fake b n p ≡ true → Way s b t p none (s .held)
+    pub release-fake : fake b n p ≡ true → Way s b r t p none (s .held)
     release-fake e =
-        record { wait = release n; found = w; event = event-release b (s .held) n p ∙ rw e refl; after = held-release b (s .held) n p }
+        record { wait = release n; found = w; event = event-release b r (s .held) n p ∙ rw e refl; after = held-release b (s .held) n p }
 
-    pub release-done : fake b n p ≡ false → {v : Event} → v ≡ releaseEvent n → Way s b t p (some v) (s .held)
+    pub release-done : fake b n p ≡ false → {v : Event} → v ≡ releaseEvent n → Way s b r t p (some v) (s .held)
     release-done e v =
         record {
           wait = release n;
           found = w;
-          event = event-release b (s .held) n p ∙ rw e (ap some (sym v));
+          event = event-release b r (s .held) n p ∙ rw e (ap some (sym v));
           after = held-release b (s .held) n p;
         }
 
@@ -125,22 +126,22 @@ module _ (s : Session) (b : Keyboard) (t : ℕ) (p : Option Message) where
 
   module _ (w : findWait t (s .entries) ≡ some character) where
     -- nothing is completed: no press is held, or more is coming
-    pub char-dropped : (isHeld (s .held) && not (moreComing p)) ≡ false → Way s b t p none (s .held)
+    pub char-dropped : (isHeld (s .held) && not (moreComing p)) ≡ false → Way s b r t p none (s .held)
     char-dropped e = record { wait = character; found = w; event = dropped (s .held) (moreComing p) e refl .0; after = dropped (s .held) (moreComing p) e refl .1 }
       where
         dropped :
             (o : Option Held) (m : Bool) → (isHeld o && not m) ≡ false → moreComing p ≡ m →
-            (finishEvent b o character p ≡ none) × (finishHeld b o character p ≡ o)
-        dropped none m e f = (event-none b p, held-none b p)
-        dropped (some g) true e f = (event-char b g p ∙ rw f refl, held-char b g p ∙ rw f refl)
+            (finishEvent b r o character p ≡ none) × (finishHeld b o character p ≡ o)
+        dropped none m e f = (event-none b r p, held-none b p)
+        dropped (some g) true e f = (event-char b r g p ∙ rw f refl, held-char b g p ∙ rw f refl)
         dropped (some g) false e f = let z : true ≡ false = e in ((cc), (cc))
 
-    pub char-done : (g : Held) → s .held ≡ some g → moreComing p ≡ false → {v : Event} → v ≡ charEvent b g → Way s b t p (some v) none
+    pub char-done : (g : Held) → s .held ≡ some g → moreComing p ≡ false → {v : Event} → v ≡ charEvent b r g → Way s b r t p (some v) none
     char-done g e m v =
         record {
           wait = character;
           found = w;
-          event = rw e (event-char b g p ∙ rw m (ap some (sym v)));
+          event = rw e (event-char b r g p ∙ rw m (ap some (sym v)));
           after = rw e (held-char b g p ∙ rw m refl);
         }
 
@@ -158,9 +159,9 @@ held-apart false s h t o = refl
 
 -- the entry resolved with o, in the area of the session that holds h
 pub finished :
-    (s : Session) (b : Keyboard) (t : ℕ) (p : Option Message) (o : Option Event) (h : Option Held) → Way s b t p o h → (x : List ℕ) {y z : List ℕ} →
-    decode x ≡ holding s h → Does (resolvedBy (decode x) t o) y z → Does (finishedBy s b t p) y z
-finished s b t p o h w x e d =
+    (s : Session) (b : Keyboard) (r : Table) (t : ℕ) (p : Option Message) (o : Option Event) (h : Option Held) → Way s b r t p o h → (x : List ℕ) {y z : List ℕ} →
+    decode x ≡ holding s h → Does (resolvedBy (decode x) t o) y z → Does (finishedBy s b r t p) y z
+finished s b r t p o h w x e d =
     let k : resolvedBy (decode x) t o ≡ resolved (isFirst t (s .entries)) s t o h = rw e (held-apart (isFirst t (s .entries)) s h t o) in
-    rw (w .found, finish-found s b t p (w .wait), w .event, w .after)
+    rw (w .found, finish-found s b r t p (w .wait), w .event, w .after)
     (record { session = d .session ∙ ap (λ (f : Effect). encode (f .after)) k; answers = d .answers ∙ ap (λ (f : Effect). encodeAnswer (f .events)) k })

@@ -12,6 +12,7 @@ use lib.ListN.{getD, length, take, drop, length-drop}
 use lib.Seq.{drop-drop}
 use Rattle.area.specs.Pick.{pick}
 use Rattle.area.proofs.Splice.{part-rest}
+use Rattle.segmentation.specs.Table.{Table}
 use Rattle.lookup.specs.Block.{blockOk}
 use Rattle.lookup.specs.declared.keyboard.KeyLParam.{KeyLParam}
 use Rattle.session.specs.Limits.{AREA, ENTRIES-MOST, ENTRIES-AT, ENTRY-SIZE, INFO-SIZE}
@@ -72,16 +73,16 @@ lost t (x ∷ l) h = lost-by (eqb t (tokenOf x)) t x l refl h (lost t l)
 
 -- ---- the area of a finish
 
-module _ (x : List ℕ) (b : (i : ℕ) → getD x i 0 < 256) (r : IsArea x) where
+module _ (x : List ℕ) (b : (i : ℕ) → getD x i 0 < 256) (own : IsArea x) where
   -- nothing waits: nothing is done
   pub nothing-left :
-      (k : Keyboard) (t : ℕ) (p : Option Message) {y : List ℕ} → findWait t (decode x .entries) ≡ none → y ≡ encodeAnswer [] →
-      Does (finishedBy (decode x) k t p) x y
-  nothing-left k t p f e = rw (f, finish-lost (decode x) k t p) (record { session = own-area x b r .exact; answers = e })
+      (k : Keyboard) (r : Table) (t : ℕ) (p : Option Message) {y : List ℕ} → findWait t (decode x .entries) ≡ none → y ≡ encodeAnswer [] →
+      Does (finishedBy (decode x) k r t p) x y
+  nothing-left k r t p f e = rw (f, finish-lost (decode x) k r t p) (record { session = own-area x b own .exact; answers = e })
 
   module _ (place : ℕ) (h : place < length (decode x .entries)) where
     pub entry-within : ENTRIES-AT + ENTRY-SIZE * place + ENTRY-SIZE ≤ length x
-    entry-within = omega (arith, count-most x b r, r .size)
+    entry-within = omega (arith, count-most x b own, own .size)
 
     -- read from byte k of the area on
     pub entry-long : {k : ℕ} → k ≤ length x → k ≡ ENTRIES-AT + ENTRY-SIZE * place → ENTRY-SIZE ≤ length (take (length x - k) (drop k x))

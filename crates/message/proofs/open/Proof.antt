@@ -15,7 +15,7 @@ use Rattle.message.proofs.open.Tie as tie
 
 -- from the first questions back to what the call is given
 abbrev given : tie.After-ask-areas → tie.Start
-given c = let known = c .before .before .before in known .before .before .before .before
+given c = let known = c .before .before .before in known .before .before .before .before .before
 
 abbrev asked : tie.After-ask-message → tie.After-ask-areas
 asked c = let told = c .before .before .before in told .before .before
@@ -45,7 +45,7 @@ same-length-2 c = search needs
 returns : tie.Need-returns
 returns c =
     let early = c .before .before .before .before in
-    open-early _ _ _ _ (given early .args .result) _ (early .ask-areas .ensures) _ (c .before .before .early .given .1) (c .answered .ensures) refl
+    open-early _ _ _ _ _ (given early .args .result) _ (early .ask-areas .ensures) _ (c .before .before .early .given .1) (c .answered .ensures) refl
 
 enum-told : tie.Need-enum-told
 enum-told c = search needs
@@ -57,7 +57,7 @@ ask-message-requires : tie.Need-ask-message-requires
 ask-message-requires c κs =
     let e = c .before .before .before .before .ask-areas .ensures in
     let p = c .before .before .enum-told .given .1 in
-    (asked-area _ _ _ _ e p, asked-block _ _ _ _ e p)
+    (asked-area _ _ _ _ _ e p, asked-block _ _ _ _ _ e p)
 
 enum-known-late : tie.Need-enum-known-late
 enum-known-late c = search needs
@@ -77,7 +77,7 @@ returns-2 c =
     let sort = late .before .before in
     let told = sort .before in
     let early = told .before .before in
-    open-late _ _ _ _ (given early .args .result) _ (early .ask-areas .ensures) (told .enum-told .given .1) _ (sort .sort-of .ensures) (late-in late) _
+    open-late _ _ _ _ _ (given early .args .result) _ (early .ask-areas .ensures) (told .enum-told .given .1) _ (sort .sort-of .ensures) (late-in late) _
     (c .before .before .late .given .1) (c .answered2 .ensures) refl
 
 enum-told-2 : tie.Need-enum-told-2
@@ -88,7 +88,7 @@ header-at-requires c κs =
     let passed = c .before in
     let late = passed .before .before in
     let told = late .before .before .before in
-    let a = asked-area _ _ _ _ (told .before .before .ask-areas .ensures) (told .enum-told .given .1) in omega (arith, a .size)
+    let a = asked-area _ _ _ _ _ (told .before .before .ask-areas .ensures) (told .enum-told .given .1) in omega (arith, a .size)
 
 result-after-requires : tie.Need-result-after-requires
 result-after-requires c κs = search needs
@@ -102,7 +102,7 @@ open-by-requires c κs =
     let e = told .before .before .ask-areas .ensures in
     let p = told .enum-told .given .1 in
     let asked = told-asked _ _ _ (late .before .before .sort-of .result) _ (late .ask-message .ensures 0 _) refl in
-    (asked-area _ _ _ _ e p, asked-answers _ _ _ _ e p, asked-block _ _ _ _ e p, asked-passes _ _ _ _ asked (passed .enum-told2 .given .1))
+    (asked-area _ _ _ _ _ e p, asked-answers _ _ _ _ _ e p, asked-block _ _ _ _ _ e p, asked-passes _ _ _ _ asked (passed .enum-told2 .given .1))
 
 answered-requires-3 : tie.Need-answered-requires-3
 answered-requires-3 c κs = search needs
@@ -124,7 +124,7 @@ returns-3 c =
     let sort = late .before .before in
     let told = sort .before in
     let early = told .before .before in
-    open-passed _ _ _ _ _ _ (early .ask-areas .ensures) (told .enum-told .given .1) _ (sort .sort-of .ensures) (late-in late)
+    open-passed _ _ _ _ _ _ _ (early .ask-areas .ensures) (told .enum-told .given .1) _ (sort .sort-of .ensures) (late-in late)
     (passed .enum-told2 .given .1) (result .result-after .result) (result .result-after .ensures _ _ _ (sym (head .header-at .ensures .1)))
     (done .open-by .ensures _) (c .answered3 .ensures) refl
 

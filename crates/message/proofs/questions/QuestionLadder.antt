@@ -8,6 +8,7 @@ use Prim.Native.Nat.{ℕ, _+_, _≤_, _<_}
 use lib.Dec.{eqb, leb}
 use lib.ListN.{length}
 use borrow.Author.Tests.{eq-eqb, ne-eqb, le-leb, lt-leb}
+use Rattle.segmentation.specs.Layout.{tableOk}
 use Rattle.lookup.specs.Block.{blockOk}
 use Rattle.session.specs.Limits.{AREA, KEYS, ENTRIES-MOST, TOKENS-MOST, UNITS-MOST}
 use Rattle.session.specs.Given.{Message}
@@ -16,7 +17,7 @@ use Rattle.session.specs.Area.{sessionOk}
 use Rattle.session.specs.Builder.{Keyboard}
 use Rattle.session.specs.Calls.{Sort}
 use Rattle.session.specs.Questions.{newEntries, unitsAfter, lastToken, isToken, question1, question5, question6, question7, question8, question9, question10, firstNo, messageQuestions, finishQuestions}
-use Rattle.message.specs.Asked.{firstFour}
+use Rattle.message.specs.Asked.{toEvery}
 
 -- ---- one question, with the answer p to it
 
@@ -33,14 +34,24 @@ none-left : none ≡ firstNo []
 unfolding firstNo
 none-left = refl
 
--- ---- 1 to 4
+-- ---- 1 to 3, 11 and 4
 
-module _ (x y state block : List ℕ) where
-  abbrev Four : Option ℕ → Type 0
-  Four r = r ≡ firstNo (firstFour x y state block)
+module _ (x y state block table : List ℕ) where
+  abbrev Early : Option ℕ → Type 0
+  Early r = r ≡ firstNo (toEvery x y state block table)
 
-  pub no-session-size : (length x ≡ AREA → ⊥) → Four (some 1)
-  unfolding firstFour question1
+  -- those from one question on
+  abbrev From4 : List (ℕ × Bool)
+  From4 = (4, sessionOk x) ∷ []
+
+  abbrev From11 : List (ℕ × Bool)
+  From11 = (11, tableOk table) ∷ From4
+
+  abbrev From3 : List (ℕ × Bool)
+  From3 = (3, blockOk block) ∷ From11
+
+  pub no-session-size : (length x ≡ AREA → ⊥) → Early (some 1)
+  unfolding toEvery question1
   no-session-size h = failed 1 _ _ (rw (ne-eqb (length x) AREA h))
 
   module _ (sized : length x ≡ AREA) where
@@ -48,37 +59,44 @@ module _ (x y state block : List ℕ) where
     unfolding question1
     both = rw (eq-eqb (length x) AREA sized)
 
-    pub no-answer-size : (length y ≡ AREA → ⊥) → Four (some 1)
-    unfolding firstFour
+    pub no-answer-size : (length y ≡ AREA → ⊥) → Early (some 1)
+    unfolding toEvery
     no-answer-size h = failed 1 _ _ (both ∙ ne-eqb (length y) AREA h)
 
     module _ (answers : length y ≡ AREA) where
-      second : {r : Option ℕ} → r ≡ firstNo ((2, eqb (length state) KEYS) ∷ (3, blockOk block) ∷ (4, sessionOk x) ∷ []) → Four r
-      unfolding firstFour
+      second : {r : Option ℕ} → r ≡ firstNo ((2, eqb (length state) KEYS) ∷ From3) → Early r
+      unfolding toEvery
       second = passed 1 _ _ (both ∙ eq-eqb (length y) AREA answers)
 
-      pub no-key-state : (length state ≡ KEYS → ⊥) → Four (some 2)
+      pub no-key-state : (length state ≡ KEYS → ⊥) → Early (some 2)
       no-key-state h = second (failed 2 _ _ (ne-eqb (length state) KEYS h))
 
       module _ (keys : length state ≡ KEYS) {p : Bool} (ep : p ≡ blockOk block) where
-        third : {r : Option ℕ} → r ≡ firstNo ((3, blockOk block) ∷ (4, sessionOk x) ∷ []) → Four r
+        third : {r : Option ℕ} → r ≡ firstNo From3 → Early r
         third h = second (passed 2 _ _ (eq-eqb (length state) KEYS keys) h)
 
-        pub no-block : p ≡ false → Four (some 3)
+        pub no-block : p ≡ false → Early (some 3)
         no-block h = third (failed 3 _ _ (sym ep ∙ h))
 
-        module _ (block-ok : p ≡ true) {q : Bool} (eq : q ≡ (eqb (length x) AREA && sessionOk x)) where
-          is-area : q ≡ sessionOk x
-          is-area = eq ∙ rw (eq-eqb (length x) AREA sized)
+        module _ (block-ok : p ≡ true) {v : Bool} (ev : v ≡ tableOk table) where
+          eleventh : {r : Option ℕ} → r ≡ firstNo From11 → Early r
+          eleventh h = third (passed 3 _ _ (sym ep ∙ block-ok) h)
 
-          fourth : {r : Option ℕ} → r ≡ firstNo ((4, sessionOk x) ∷ []) → Four r
-          fourth h = third (passed 3 _ _ (sym ep ∙ block-ok) h)
+          pub no-table : v ≡ false → Early (some 11)
+          no-table h = eleventh (failed 11 _ _ (sym ev ∙ h))
 
-          pub no-session : q ≡ false → Four (some 4)
-          no-session h = fourth (failed 4 _ _ (sym is-area ∙ h))
+          module _ (table-ok : v ≡ true) {q : Bool} (eq : q ≡ (eqb (length x) AREA && sessionOk x)) where
+            is-area : q ≡ sessionOk x
+            is-area = eq ∙ rw (eq-eqb (length x) AREA sized)
 
-          pub four-passed : q ≡ true → Four none
-          four-passed h = fourth (passed 4 _ _ (sym is-area ∙ h) none-left)
+            fourth : {r : Option ℕ} → r ≡ firstNo From4 → Early r
+            fourth h = eleventh (passed 11 _ _ (sym ev ∙ table-ok) h)
+
+            pub no-session : q ≡ false → Early (some 4)
+            no-session h = fourth (failed 4 _ _ (sym is-area ∙ h))
+
+            pub early-passed : q ≡ true → Early none
+            early-passed h = fourth (passed 4 _ _ (sym is-area ∙ h) none-left)
 
 -- ---- 5 to 9
 

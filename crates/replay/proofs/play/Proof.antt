@@ -6,10 +6,13 @@ use Rattle.replay.proofs.play.Statement.{statement}
 use Rattle.replay.proofs.play.Tie as tie
 
 abbrev Inv-loop : tie.InvT-loop
-Inv-loop d from session₀ answers₀ expected₀ state₀ block₀ result₀ at₀ calls₀ events₀ turn₀ session answers expected state block result at calls events turn = turn ≤ length d
+Inv-loop d from session₀ answers₀ expected₀ tables state₀ block₀ table₀ result₀ at₀ calls₀ events₀ turn₀ session answers expected state block table result at calls events turn = turn ≤ length d
 
 abbrev μ-loop : tie.MeasureT-loop
-μ-loop d from session₀ answers₀ expected₀ state₀ block₀ result₀ at₀ calls₀ events₀ turn₀ session answers expected state block result at calls events turn = length d - turn
+μ-loop d from session₀ answers₀ expected₀ tables state₀ block₀ table₀ result₀ at₀ calls₀ events₀ turn₀ session answers expected state block table result at calls events turn = length d - turn
+
+tables-at-requires : tie.Need-tables-at-requires Inv-loop μ-loop
+tables-at-requires c κs = search needs
 
 fresh-requires : tie.Need-fresh-requires Inv-loop μ-loop
 fresh-requires c κs = search needs
@@ -29,17 +32,29 @@ behind-requires c κs = search needs
 byte-at-requires-2 : tie.Need-byte-at-requires-2 Inv-loop μ-loop
 byte-at-requires-2 c κs = search needs
 
-block-of-requires : tie.Need-block-of-requires Inv-loop μ-loop
-block-of-requires c κs = search needs
+listed-requires : tie.Need-listed-requires Inv-loop μ-loop
+listed-requires c κs = search needs
 
 behind-requires-2 : tie.Need-behind-requires-2 Inv-loop μ-loop
 behind-requires-2 c κs = search needs
+
+byte-at-requires-3 : tie.Need-byte-at-requires-3 Inv-loop μ-loop
+byte-at-requires-3 c κs = search needs
+
+listed-requires-2 : tie.Need-listed-requires-2 Inv-loop μ-loop
+listed-requires-2 c κs = search needs
+
+behind-requires-3 : tie.Need-behind-requires-3 Inv-loop μ-loop
+behind-requires-3 c κs = search needs
 
 unpack-state-requires : tie.Need-unpack-state-requires Inv-loop μ-loop
 unpack-state-requires c κs = search needs
 
 bytes-of-requires : tie.Need-bytes-of-requires Inv-loop μ-loop
 bytes-of-requires c κs = search needs
+
+bytes-of-requires-2 : tie.Need-bytes-of-requires-2 Inv-loop μ-loop
+bytes-of-requires-2 c κs = search needs
 
 play-call-requires : tie.Need-play-call-requires Inv-loop μ-loop
 play-call-requires c κs = search needs
@@ -74,16 +89,21 @@ play-spec =
     (tie.spec
     Inv-loop
     μ-loop
+    tables-at-requires
     fresh-requires
     loop-holds
     byte-at-requires
     returns
     behind-requires
     byte-at-requires-2
-    block-of-requires
+    listed-requires
     behind-requires-2
+    byte-at-requires-3
+    listed-requires-2
+    behind-requires-3
     unpack-state-requires
     bytes-of-requires
+    bytes-of-requires-2
     play-call-requires
     wrapping-add-u64-requires
     wrapping-add-u64-requires-2

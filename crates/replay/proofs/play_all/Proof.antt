@@ -20,8 +20,11 @@ large-buffer-requires-2 c κs = search needs
 large-buffer-requires-3 : tie.Need-large-buffer-requires-3 Inv-loop μ-loop
 large-buffer-requires-3 c κs = search needs
 
-first-script-requires : tie.Need-first-script-requires Inv-loop μ-loop
-first-script-requires c κs = search needs
+tables-at-requires : tie.Need-tables-at-requires Inv-loop μ-loop
+tables-at-requires c κs = search needs
+
+behind-list-requires : tie.Need-behind-list-requires Inv-loop μ-loop
+behind-list-requires c κs = search needs
 
 loop-holds : tie.Need-loop-holds Inv-loop μ-loop
 loop-holds c = search needs
@@ -74,7 +77,8 @@ play-all-spec =
     large-buffer-requires
     large-buffer-requires-2
     large-buffer-requires-3
-    first-script-requires
+    tables-at-requires
+    behind-list-requires
     loop-holds
     byte-at-requires
     returns

@@ -6,10 +6,10 @@ use Rattle.station.proofs.shift.Statement.{statement}
 use Rattle.station.proofs.shift.Tie as tie
 
 abbrev Inv-loop : tie.InvT-loop
-Inv-loop names us flagged accent input session₀ answers₀ card₀ state₀ layout₀ at₀ turn₀ session answers card state layout at turn = turn ≤ length input
+Inv-loop names us flagged accent table input session₀ answers₀ card₀ state₀ layout₀ at₀ turn₀ session answers card state layout at turn = turn ≤ length input
 
 abbrev μ-loop : tie.MeasureT-loop
-μ-loop names us flagged accent input session₀ answers₀ card₀ state₀ layout₀ at₀ turn₀ session answers card state layout at turn = length input - turn
+μ-loop names us flagged accent table input session₀ answers₀ card₀ state₀ layout₀ at₀ turn₀ session answers card state layout at turn = length input - turn
 
 large-buffer-requires : tie.Need-large-buffer-requires Inv-loop μ-loop
 large-buffer-requires c κs = search needs

@@ -129,30 +129,37 @@ fn a_finish_names_the_latest() {
   assert_eq!(finish_refused_in(&Session::fresh(), 0), Some(10));
 }
 
-/// Each question is put behind those before it.
+/// Each question is put behind those before it; 11 stands between 3 and 4.
 #[test]
 fn the_first_no_counts() {
   let good = encode(&session(1, 0, 1, None));
   let bad = vec![1; AREA];
   let (short, long) = (vec![0; AREA - 1], vec![0; AREA + 1]);
   let block = block::encode(&LayoutSpec::empty(1)).unwrap();
+  let table = break_table::write(&[(0x0D, 0x0D, 1)]);
   let state = [0; 256];
-  type Row<'a> = (&'a [u8], &'a [u8], &'a [u8], &'a [u8], Option<u32>);
-  let rows: [Row; 9] = [
-    (&short, &bad, &state, &block, Some(1)),
-    (&good, &long, &[], &[], Some(1)),
-    (&good, &short, &state, &block, Some(1)),
-    (&bad, &bad, &state[1..], &[], Some(2)),
-    (&bad, &bad, &[0; 257], &[], Some(2)),
-    (&bad, &bad, &state, &block[1..], Some(3)),
-    (&good, &good, &state, &bad, Some(3)),
-    (&bad, &bad, &state, &block, Some(4)),
-    (&good, &bad, &state, &block, None),
+  type Row<'a> = (&'a [u8], &'a [u8], &'a [u8], &'a [u8], &'a [u8], Option<u32>);
+  let rows: [Row; 13] = [
+    (&short, &bad, &state, &block, &table, Some(1)),
+    (&good, &long, &[], &[], &[], Some(1)),
+    (&good, &short, &state, &block, &table, Some(1)),
+    (&bad, &bad, &state[1..], &[], &[], Some(2)),
+    (&bad, &bad, &[0; 257], &[], &table, Some(2)),
+    (&bad, &bad, &state, &block[1..], &[], Some(3)),
+    (&good, &good, &state, &bad, &table, Some(3)),
+    (&bad, &bad, &state, &block, &[], Some(11)),
+    (&bad, &bad, &state, &block, &table[1..], Some(11)),
+    (&good, &bad, &state, &block, &bad, Some(11)),
+    (&bad, &bad, &state, &block, &table, Some(4)),
+    (&good, &bad, &state, &block, &table, None),
+    (&good, &bad, &state, &block, &[0; 8], None),
   ];
-  for (session, answers, state, block, number) in rows {
-    assert_eq!(finish_refused(session, answers, state, block, 7), number.or(Some(10)));
-    assert_eq!(finish_refused(session, answers, state, block, 0), number);
-    assert_eq!(open_refused(session, answers, state, block, 0x103, 0, 0), number.or(Some(5)));
-    assert_eq!(open_refused(session, answers, state, block, 0x100, 0, 0), number);
+  for (session, answers, state, block, table, number) in rows {
+    assert_eq!(finish_refused(session, answers, state, block, table, 7), number.or(Some(10)));
+    assert_eq!(finish_refused(session, answers, state, block, table, 0), number);
+    assert_eq!(open_refused(session, answers, state, block, table, 0x103, 0, 0), number.or(Some(5)));
+    assert_eq!(open_refused(session, answers, state, block, table, 0x100, 0, 0), number);
+    // an ignored message
+    assert_eq!(open_refused(session, answers, state, block, table, 0x12, 0, 0), number);
   }
 }

@@ -1,5 +1,5 @@
 //! Keyboards, calls and events in the words of crates/session/specs.
-use super::boards::Board;
+use super::{boards::Board, scripts::Step, tables::Table};
 use kbtypes::{Body, Code, ElementState, Event, Key, LayoutSpec, Location, Native, CODE_NAMES, KEY_NAMES};
 use std::collections::BTreeMap;
 
@@ -110,13 +110,22 @@ pub fn board(b: &Board) -> String {
   format!("abbrev pub {0} : Keyboard\n{0} = record {{ layout = {1}; keyState = {bytes} }}\n", b.name, b.layout_name)
 }
 
-pub fn step(b: &Board, body: &Body) -> String {
+/// Its bytes, sixteen in a line.
+pub fn table(t: &Table) -> String {
+  let lines: Vec<String> = t.bytes.chunks(16).map(|l| l.iter().map(|b| hex((*b).into()) + " ∷ ").collect()).collect();
+  let bytes = lines.join("\n    ") + "[]";
+  let place = if lines.len() > 1 { "\n    " } else { " " };
+  format!("-- {0}\nabbrev pub {1} : List ℕ\n{1} ={place}{bytes}\n", t.shows, t.name).replace(" \n", "\n")
+}
+
+pub fn step(s: &Step) -> String {
+  let (b, t) = (s.board.name, s.table.name);
   let message = |kind: u32, wparam, lparam| format!("(message {} {} {})", hex(kind.into()), hex(wparam), hex(lparam));
-  match body {
-    Body::Open { kind, wparam, lparam } => format!("bring {} {}", b.name, message(*kind, *wparam, *lparam)),
+  match s.body {
+    Body::Open { kind, wparam, lparam } => format!("bring {b} {t} {}", message(kind, wparam, lparam)),
     Body::Finish { token, peeked } => {
       let peeked = peeked.map_or("none".into(), |p| format!("(some {})", message(p.kind, p.wparam, p.lparam)));
-      format!("finish {} {token} {peeked}", b.name)
+      format!("finish {b} {t} {token} {peeked}")
     }
   }
 }

@@ -1,18 +1,31 @@
 //! The examples: what each stands for, and its calls.
-use super::boards::{Board, Boards};
+use super::{
+  boards::{Board, Boards},
+  tables::{small, Table, Tables},
+};
 use kbtypes::{Body, Call, Peeked};
 
-/// A call on a keyboard, and the number with which docs/SCOPE.md, 6, refuses it. tao is not given a refused call.
+/// A call on a keyboard with a break table, and the number with which docs/SCOPE.md, 6, refuses it. tao is not given a
+/// refused call.
 #[derive(Clone)]
 pub struct Step {
   pub board: Board,
+  pub table: Table,
   pub body: Body,
   pub refused: Option<u8>,
 }
 
 impl Step {
   pub fn call(&self) -> Call {
-    Call { body: self.body, state: self.board.state(), layout: self.board.layout.clone() }
+    // 1 to 3, which come before it, are not put to the test here
+    assert_eq!(self.table.ranges.is_none(), self.refused == Some(11), "{}", self.table.name);
+    let table = self.table.ranges.clone().unwrap_or_default();
+    Call { body: self.body, state: self.board.state(), layout: self.board.layout.clone(), table }
+  }
+
+  /// The same with another table.
+  pub fn on(self, table: &Table) -> Step {
+    Step { table: table.clone(), ..self }
   }
 }
 
@@ -35,7 +48,7 @@ pub struct Example {
 }
 
 pub fn step(board: &Board, body: Body) -> Step {
-  Step { board: board.clone(), body, refused: None }
+  Step { board: board.clone(), table: small(), body, refused: None }
 }
 
 /// A call that brings a message.
@@ -105,7 +118,23 @@ pub fn held(board: &Board, steps: Vec<Step>) -> Vec<Step> {
   [press(board, 0x31, 0x02), more(board, 0)].into_iter().chain(steps).collect()
 }
 
-pub fn examples(b: &Boards) -> Vec<Example> {
+/// A press of 31 and the characters that follow it, the last with nothing behind it.
+pub fn typed(board: &Board, codes: &[u64]) -> Vec<Step> {
+  let mut steps = held(board, vec![]);
+  for (i, c) in codes.iter().enumerate() {
+    steps.push(character(board, *c));
+    steps.push(if i + 1 < codes.len() { more(board, 0) } else { alone(board, 0) });
+  }
+  steps
+}
+
+/// Several such, one behind the other.
+fn texts(board: &Board, all: &[&[u64]]) -> Vec<Step> {
+  all.iter().flat_map(|codes| typed(board, codes)).collect()
+}
+
+pub fn examples(b: &Boards, t: &Tables) -> Vec<Example> {
+  let Tables { no_ranges, no_bytes, touching, class_14 } = t;
   let Boards {
     us,
     us_control,
@@ -295,32 +324,65 @@ pub fn examples(b: &Boards) -> Vec<Example> {
       "a code that is no scalar is two zero units, and they are a text; 100000061 is a",
       held(us, vec![character(us, 0x11_0000), more(us, 0), character(us, 0x1_0000_0061), alone(us, 0)]),
     ),
+    // ---- pieces: by the table of the finish that completes the last character
     example(
       "one-piece",
-      "CR LF is one piece, and so is a letter with marks (by SCOPE 3.13's stand-in for the counter, in tao too)",
-      {
-        let mut steps = held(us, vec![character(us, 0x0D), more(us, 0), character(us, 0x0A), alone(us, 0)]);
-        steps.extend(held(
-          us,
-          vec![
-            character(us, 0x65),
-            more(us, 0),
-            character(us, 0x301),
-            more(us, 0),
-            character(us, 0x36F),
-            alone(us, 0),
-          ],
-        ));
-        steps
-      },
+      "CR LF is one piece, and so is a letter with marks: the typed text is the logical key",
+      texts(us, &[&[0x0D, 0x0A], &[0x65, 0x301], &[0x65, 0x301, 0x36F]]),
     ),
     example(
       "several-pieces",
       "CR LF with a mark behind it is several pieces: the layout's key stands",
-      held(
-        us,
-        vec![character(us, 0x0D), more(us, 0), character(us, 0x0A), more(us, 0), character(us, 0x301), alone(us, 0)],
-      ),
+      typed(us, &[0x0D, 0x0A, 0x301]),
+    ),
+    example(
+      "no-ranges-of-class",
+      "classes come from the table alone: with no ranges CR LF is two pieces, and so are a letter and a mark",
+      texts(us, &[&[0x0D, 0x0A], &[0x65, 0x301]]).into_iter().map(|s| s.on(no_ranges)).collect(),
+    ),
+    example(
+      "joined-pictographs",
+      "two pictographs with a ZWJ between them are one piece (GB11), with an Extend before the ZWJ too",
+      texts(us, &[&[0x1_F468, 0x200D, 0x1_F469], &[0x1_F468, 0x1_F3FB, 0x200D, 0x1_F469]]),
+    ),
+    example(
+      "two-joiners",
+      "with two ZWJ between them, or with a letter before the one, they are not: GB11's Extend* holds no ZWJ",
+      texts(us, &[&[0x1_F468, 0x200D, 0x200D, 0x1_F469], &[0x61, 0x200D, 0x1_F469]]),
+    ),
+    example(
+      "flags",
+      "two regional indicators are one piece, one and a half flags are two (GB12), and so is a flag behind a letter (GB13)",
+      texts(us, &[&[0x1_F1E9, 0x1_F1EA], &[0x1_F1E9, 0x1_F1EA, 0x1_F1E9], &[0x61, 0x1_F1E9, 0x1_F1EA]]),
+    ),
+    example(
+      "syllables",
+      "a Hangul syllable in three parts is one piece (GB6 to GB8), one with its vowel last is two",
+      texts(us, &[&[0x1100, 0x1161, 0x11A8], &[0xAC00, 0x11A8], &[0x1100, 0x11A8, 0x1161]]),
+    ),
+    example(
+      "conjunct",
+      "a consonant behind 094D is a piece of its own: GB9c is no part of the rules",
+      typed(us, &[0x915, 0x94D, 0x937]),
+    ),
+    example(
+      "around-a-letter",
+      "a letter and a SpacingMark are one piece (GB9a), a Prepend and a letter too (GB9b), but not with LF (GB5)",
+      texts(us, &[&[0x915, 0x903], &[0x600, 0x31], &[0x600, 0x0A]]),
+    ),
+    example(
+      "table-of-the-last-finish",
+      "the table that counts is that of the finish that completes the last character, not those before it",
+      {
+        let mut steps = typed(us, &[0x0D, 0x0A]);
+        let last = steps.pop().unwrap().on(no_ranges);
+        steps.push(last);
+        let mut other: Vec<Step> = typed(us, &[0x0D, 0x0A]).into_iter().map(|s| s.on(no_ranges)).collect();
+        let last = other.pop().unwrap().on(&small());
+        steps.extend(other);
+        steps.push(last);
+        steps
+      },
     ),
     // ---- what is read when
     example(
@@ -459,6 +521,23 @@ pub fn examples(b: &Boards) -> Vec<Example> {
       "nothing-held",
       "a 103 with no press held is refused 5, a 102 is ignored",
       vec![refused(5, dead_character(us, 0xB4)), refused(5, bring(us, 0x107, 0, 0)), character(us, 0x31)],
+    ),
+    example(
+      "table-refused",
+      "a table that is none is refused 11, whatever the call is: an open, a finish, an ignored message, a focus change",
+      vec![
+        refused(11, press(us, 0x31, 0x02).on(no_bytes)),
+        press(us, 0x31, 0x02),
+        refused(11, more(us, 0).on(touching)),
+        refused(11, alone(us, 7).on(class_14)),
+        more(us, 0).on(no_ranges),
+        refused(11, bring(us, 0x12, 0, 0).on(class_14)),
+        refused(11, gain(us_busy).on(no_bytes)),
+        character(us, 0x31),
+        refused(11, alone(us, 0).on(no_bytes)),
+        refused(11, dead_character(us, 0xB4).on(touching)),
+        alone(us, 0),
+      ],
     ),
     example("eight-open", "with eight open a focus message, a 103 and ignored ones pass, and a ninth open is refused 6", {
       let mut steps = held(us, (0..8).map(|_| release(us, 0x31, 0x02)).collect());

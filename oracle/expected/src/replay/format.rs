@@ -6,7 +6,7 @@ use std::sync::Arc;
 
 const END: u8 = 0;
 const SCRIPT: u8 = 1;
-const KEYBOARD: u8 = 2;
+const INPUTS: u8 = 2;
 const OPEN: u8 = 3;
 const FINISH: u8 = 4;
 
@@ -79,6 +79,27 @@ fn record(step: &Step, answer: &Answer, before: &Snapshot) -> [u8; RECORD] {
   out
 }
 
+/// The tables in the order in which scripts first use them.
+fn tables(scripts: &[Script]) -> Vec<Arc<[u8]>> {
+  let mut out: Vec<Arc<[u8]>> = vec![];
+  for step in scripts.iter().flat_map(|s| &s.steps) {
+    if !out.contains(&step.table.bytes) {
+      out.push(step.table.bytes.clone());
+    }
+  }
+  out
+}
+
+/// How many there are, and each with its length before it.
+fn counted(all: &[Vec<u8>]) -> Vec<u8> {
+  let mut out = vec![u8::try_from(all.len()).unwrap()];
+  for bytes in all {
+    out.extend((bytes.len() as u32).to_le_bytes());
+    out.extend(bytes);
+  }
+  out
+}
+
 /// The layouts in the order in which scripts first use them.
 fn layouts(scripts: &[Script]) -> Vec<Arc<LayoutSpec>> {
   let mut out: Vec<Arc<LayoutSpec>> = vec![];
@@ -92,13 +113,10 @@ fn layouts(scripts: &[Script]) -> Vec<Arc<LayoutSpec>> {
 }
 
 pub fn write(scripts: &[Script], answers: &[Vec<Answer>]) -> Vec<u8> {
-  let layouts = layouts(scripts);
-  let mut out = vec![u8::try_from(layouts.len()).unwrap()];
-  for l in &layouts {
-    let bytes = block::encode(l).unwrap();
-    out.extend((bytes.len() as u32).to_le_bytes());
-    out.extend(bytes);
-  }
+  let (layouts, tables) = (layouts(scripts), tables(scripts));
+  let blocks: Vec<Vec<u8>> = layouts.iter().map(|l| block::encode(l).unwrap()).collect();
+  let mut out = counted(&blocks);
+  out.extend(counted(&tables.iter().map(|t| t.to_vec()).collect::<Vec<_>>()));
   for (script, answers) in scripts.iter().zip(answers) {
     out.extend([SCRIPT, u8::try_from(script.name.len()).unwrap()]);
     out.extend(script.name.bytes());
@@ -106,12 +124,13 @@ pub fn write(scripts: &[Script], answers: &[Vec<Answer>]) -> Vec<u8> {
     let fresh = Snapshot { handed: 0, entries: vec![], held: None };
     let mut before = &fresh;
     for (step, answer) in script.steps.iter().zip(answers) {
-      let keyboard = (step.call.layout.id, step.call.state.clone());
-      if last.as_ref() != Some(&keyboard) {
-        let number = layouts.iter().position(|l| l.id == keyboard.0).unwrap();
-        out.extend([KEYBOARD, number as u8]);
-        out.extend(pack(&keyboard.1[..]));
-        last = Some(keyboard);
+      let block = layouts.iter().position(|l| l.id == step.call.layout.id).unwrap();
+      let table = tables.iter().position(|t| *t == step.table.bytes).unwrap();
+      let inputs = (block, table, step.call.state.clone());
+      if last.as_ref() != Some(&inputs) {
+        out.extend([INPUTS, block as u8, table as u8]);
+        out.extend(pack(&inputs.2[..]));
+        last = Some(inputs);
       }
       out.push(if let Body::Open { .. } = step.call.body { OPEN } else { FINISH });
       out.extend(pack(&record(step, answer, before)));

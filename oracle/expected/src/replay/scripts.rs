@@ -3,9 +3,11 @@ use crate::examples::{
   boards::{code, key, named, text, Board, Boards},
   scripts::{
     alone, before_alt_gr, bring, character, dead_character, gain, held, loss, lparam, more, press, refused, release,
-    seeing, Step,
+    seeing, typed, Step,
   },
+  tables::{small, unicode, Table, Tables},
 };
+use areas::break_table::write;
 use kbtypes::{Code, Key, LayoutSpec, Native};
 use std::sync::Arc;
 
@@ -87,16 +89,6 @@ fn card(b: &Board, digits: &str) -> Vec<Step> {
   steps
 }
 
-/// A held press, and then characters, the last with nothing peeked.
-fn typed(b: &Board, codes: &[u64]) -> Vec<Step> {
-  let mut steps = held(b, vec![]);
-  for (i, c) in codes.iter().enumerate() {
-    steps.push(character(b, *c));
-    steps.push(if i + 1 < codes.len() { more(b, 0) } else { alone(b, 0) });
-  }
-  steps
-}
-
 /// Eight messages of several kinds inside one another, with focus and dead characters inside the eighth.
 fn depth_eight(b: &Board, busy: &Board, german: &Board) -> Vec<Step> {
   let mut steps = held(b, vec![]);
@@ -146,8 +138,9 @@ fn units(b: &Board) -> Vec<Step> {
   steps
 }
 
-fn pieces(b: &Board) -> Vec<Step> {
-  let cases: [&[u64]; 14] = [
+/// Texts on both sides of each rule, by several tables.
+fn pieces(b: &Board, tables: &[&Table]) -> Vec<Step> {
+  let cases: [&[u64]; 46] = [
     &[0x0D, 0x0A],
     &[0x0A, 0x0D],
     &[0x0D, 0x0D],
@@ -162,8 +155,132 @@ fn pieces(b: &Board) -> Vec<Step> {
     &[0x1_F600, 0x301],
     &[0x1_F600, 0x1_F600],
     &[0x31, 0x32],
+    // Control, and what goes before and behind it
+    &[0x1B, 0x301],
+    &[0x600, 0x1B],
+    &[0x200B, 0x200D],
+    // Hangul
+    &[0x1100, 0x1100, 0x1161, 0x1161, 0x11A8, 0x11A8],
+    &[0x1100, 0xAC00, 0x1161, 0x11A8],
+    &[0x1100, 0xAC01, 0x11A8],
+    &[0xAC00, 0xAC00],
+    &[0xAC01, 0x1161],
+    &[0x1100, 0x11A8],
+    &[0x1161, 0x1100],
+    &[0x11A8, 0x1161],
+    &[0x1100, 0x301, 0x1161],
+    // Extend, ZWJ, SpacingMark, Prepend
+    &[0x31, 0x200D],
+    &[0x915, 0x94D, 0x937],
+    &[0x915, 0x903, 0x94D],
+    &[0x600, 0x605, 0x31, 0x301],
+    &[0x600, 0x1_F1E6, 0x1_F1E6],
+    &[0x31, 0x600],
+    // pictographs
+    &[0x1_F468, 0x200D, 0x1_F469, 0x200D, 0x1_F466],
+    &[0x1_F468, 0x1_F3FB, 0x36F, 0x200D, 0x1_F469],
+    &[0x1_F468, 0x200D, 0x200D, 0x1_F469],
+    &[0x1_F468, 0x200D, 0x301, 0x1_F469],
+    &[0x1_F468, 0x903, 0x200D, 0x1_F469],
+    &[0x61, 0x200D, 0x1_F469],
+    &[0x200D, 0x1_F469],
+    &[0x0A, 0x1_F3FB, 0x200D, 0x1_F469],
+    &[0xA9, 0x200D, 0xAE],
+    // regional indicators
+    &[0x1_F1E6, 0x1_F1FF],
+    &[0x1_F1E6, 0x1_F1E6, 0x1_F1E6],
+    &[0x1_F1E6, 0x1_F1E6, 0x1_F1E6, 0x1_F1E6, 0x1_F1E6],
+    &[0x1_F1E6, 0x301, 0x1_F1E6],
+    &[0x31, 0x1_F1E6, 0x1_F1E6],
   ];
-  cases.iter().flat_map(|codes| typed(b, codes)).collect()
+  let by = |table: &Table| cases.iter().flat_map(|codes| typed(b, codes)).map(|s| s.on(table)).collect::<Vec<Step>>();
+  tables.iter().flat_map(|t| by(t)).collect()
+}
+
+/// Classes and marks that Unicode's table has not: an Extend, a ZWJ, a regional indicator and a Prepend that are
+/// pictographs; and a range that holds the surrogates.
+pub fn odd_table() -> Table {
+  let ranges = [
+    (0x0A, 0x0A, 21),
+    (0x0D, 0x0D, 20),
+    (0x31, 0x31, 16),
+    (0x32, 0x32, 22),
+    (0x61, 0x61, 23),
+    (0x301, 0x301, 5),
+    (0x1100, 0x1100, 25),
+    (0x11A8, 0x11A8, 19),
+    (0xD7FF, 0xE000, 4),
+    (0x1_F469, 0x1_F469, 28),
+    (0x1_F600, 0x10_FFFF, 20),
+  ];
+  Table::new("odd", "", write(&ranges))
+}
+
+/// Ways in which bytes are no table.
+fn no_tables() -> Vec<Table> {
+  let own = write(&[(0x0A, 0x0A, 2), (0x0D, 0x0D, 1), (0x300, 0x36F, 4)]);
+  let mut form = own.clone();
+  form[0] = 1;
+  let mut count = own.clone();
+  count[4] = 4;
+  let bytes = [
+    vec![],
+    vec![0; 7],
+    own[..own.len() - 1].to_vec(),
+    [&own[..], &[0]].concat(),
+    form,
+    count,
+    write(&[(0x0A, 0x0D, 2), (0x0D, 0x0D, 1)]),
+    write(&[(0x0D, 0x0D, 1), (0x0A, 0x0A, 2)]),
+    write(&[(0x0D, 0x0A, 1)]),
+    write(&[(0xD7FF, 0xD800, 4)]),
+    write(&[(0xDFFF, 0xE000, 4)]),
+    write(&[(0x0D, 0x11_0000, 4)]),
+    write(&[(0x0D, 0x0D, 14)]),
+    write(&[(0x0D, 0x0D, 32)]),
+  ];
+  bytes.into_iter().map(|bytes| Table::new("", "", bytes)).collect()
+}
+
+/// Each of them at an open, a finish and an ignored message, between calls that are answered.
+fn bad_tables(b: &Board) -> Vec<Step> {
+  let mut steps = vec![];
+  for t in no_tables() {
+    steps.extend([
+      refused(11, press(b, 0x31, 0x02).on(&t)),
+      press(b, 0x31, 0x02),
+      refused(11, more(b, 0).on(&t)),
+      refused(11, alone(b, 1).on(&t)),
+      more(b, 0),
+      refused(11, bring(b, 0x12, 0, 0).on(&t)),
+      refused(11, dead_character(b, 0xB4).on(&t)),
+      refused(11, loss(b).on(&t)),
+      character(b, 0x0D),
+      more(b, 0),
+      character(b, 0x0A),
+      refused(11, alone(b, 0).on(&t)),
+      alone(b, 0),
+      refused(11, character(b, 0x61).on(&t)),
+      character(b, 0x61),
+    ]);
+  }
+  steps
+}
+
+/// Tables that change from call to call: that of the last finish decides.
+fn changing_tables(b: &Board, tables: &[&Table]) -> Vec<Step> {
+  let mut steps = vec![];
+  for codes in [&[0x0D, 0x0A][..], &[0x31, 0x301], &[0x1_F469, 0x200D, 0x1_F468], &[0x1_F1E6, 0x1_F1E7]] {
+    for last in 0..tables.len() {
+      for before in 0..tables.len() {
+        let mut some: Vec<Step> = typed(b, codes).into_iter().map(|s| s.on(tables[before])).collect();
+        let end = some.pop().unwrap().on(tables[last]);
+        steps.extend(some);
+        steps.push(end);
+      }
+    }
+  }
+  steps
 }
 
 fn surrogates(b: &Board) -> Vec<Step> {
@@ -245,6 +362,7 @@ fn control(none: &Board, with: &[&Board]) -> Vec<Step> {
 /// Name and calls of each script.
 pub fn scripts(us: &Arc<LayoutSpec>) -> Vec<(&'static str, Vec<Step>)> {
   let b = Boards::new();
+  let (unicode, no_ranges) = (unicode(), Tables::new().no_ranges);
   let natives = Arc::new(natives());
   let us_none = board(us, &[]);
   let us_shift = board(us, &[(0x10, 0x80), (0x14, 0x01), (0x90, 0x01), (0xA0, 0x80)]);
@@ -283,7 +401,9 @@ pub fn scripts(us: &Arc<LayoutSpec>) -> Vec<(&'static str, Vec<Step>)> {
     ("natives", natives_keys),
     ("depth-eight", depth_eight(&b.us, &b.us_busy, &b.german)),
     ("units", units(&b.us)),
-    ("pieces", pieces(&b.us)),
+    ("pieces", pieces(&b.us, &[&small(), &unicode, &no_ranges, &odd_table()])),
+    ("changing-tables", changing_tables(&b.us, &[&small(), &unicode, &no_ranges, &odd_table()])),
+    ("bad-tables", bad_tables(&b.us)),
     ("surrogates", surrogates(&b.us)),
     ("wide", wide(&b.us)),
     ("code-zero", code_zero(&[&b.us, &b.odd, &b.moved, &odd_keys, &us_none])),

@@ -1,6 +1,9 @@
 //! Scripts from a fixed seed, of calls that the questions accept.
 use super::{scripts, tao, Answer, Script, Step};
-use crate::examples::boards::Boards;
+use crate::examples::{
+  boards::Boards,
+  tables::{small, unicode, Table, Tables},
+};
 use kbtypes::{Body, Call, LayoutSpec, Peeked, Slot, Snapshot};
 use std::sync::Arc;
 
@@ -52,7 +55,7 @@ const KEYS: [u16; 34] = [
   0x38, 0x45, 0x60, 0x73, 0x90, 0xA0, 0xA1, 0xA2, 0xA3, 0xA4, 0xA5, 0xB3, 0xDD, 0xDE, 0xFF,
 ];
 
-const CHARACTERS: [u64; 36] = [
+const CHARACTERS: [u64; 50] = [
   0x31,
   0x61,
   0x65,
@@ -89,6 +92,21 @@ const CHARACTERS: [u64; 36] = [
   0xD83D_0000_0000,
   0x0,
   0x80,
+  // some of each class
+  0x600,
+  0x903,
+  0x94D,
+  0x1100,
+  0x1161,
+  0x11A8,
+  0xAC00,
+  0x200D,
+  0x200D,
+  0x1_F1E6,
+  0x1_F1E6,
+  0x1_F3FB,
+  0x1_F469,
+  0x1_F469,
 ];
 
 const OTHER_KINDS: [u32; 12] =
@@ -130,7 +148,9 @@ fn accepted(seen: &Snapshot, kind: u32, wparam: u64) -> bool {
 struct Player<'a> {
   seeded: &'a mut Seeded,
   layouts: &'a [Arc<LayoutSpec>],
+  tables: &'a [Table],
   layout: Arc<LayoutSpec>,
+  table: Table,
   state: Arc<[u8; 256]>,
   steps: Vec<Step>,
   seen: Snapshot,
@@ -139,9 +159,11 @@ struct Player<'a> {
 impl Player<'_> {
   /// Adds a call and looks at tao behind it.
   fn add(&mut self, body: Body) {
-    let call = Call { body, state: self.state.clone(), layout: self.layout.clone() };
+    let ranges = self.table.ranges.clone().expect("a table");
+    let call = Call { body, state: self.state.clone(), layout: self.layout.clone(), table: ranges };
     let lent = self.seeded.slot();
-    self.steps.push(Step { call: call.clone(), lent, handed_on: false, refused: None });
+    let table = self.table.clone();
+    self.steps.push(Step { call: call.clone(), table: table.clone(), lent, handed_on: false, refused: None });
     let before = open(&self.seen).0;
     let left = match body {
       Body::Open { kind, wparam, .. } => before + usize::from(opens(&self.seen, kind, wparam)),
@@ -149,7 +171,7 @@ impl Player<'_> {
     };
     // tao runs to its end, so what is open is closed behind the last call
     let body = Body::Finish { token: 0, peeked: None };
-    let close = Step { call: Call { body, ..call }, lent, handed_on: false, refused: None };
+    let close = Step { call: Call { body, ..call }, table, lent, handed_on: false, refused: None };
     let all: Vec<&Step> = self.steps.iter().chain((0..left).map(|_| &close)).collect();
     match tao(&all).swap_remove(self.steps.len() - 1) {
       Answer::Answered { seen, .. } => self.seen = seen,
@@ -159,6 +181,7 @@ impl Player<'_> {
 
   fn keyboard(&mut self) {
     self.layout = self.layouts[self.seeded.below(self.layouts.len())].clone();
+    self.table = self.tables[self.seeded.below(self.tables.len())].clone();
     let mut state = [0; 256];
     let busy = self.seeded.of(&[0, 4, 15]);
     for vk in KEYS {
@@ -262,13 +285,23 @@ impl Player<'_> {
 /// Scripts of some forty calls each, at whose end all is closed.
 pub fn scripts(seeded: &mut Seeded, us: &Arc<LayoutSpec>) -> Vec<Script> {
   let boards = Boards::new();
-  let small = [&boards.us, &boards.german, &boards.german, &boards.odd, &boards.moved];
-  let mut layouts: Vec<Arc<LayoutSpec>> = small.iter().map(|b| b.layout.clone()).collect();
+  let few = [&boards.us, &boards.german, &boards.german, &boards.odd, &boards.moved];
+  let mut layouts: Vec<Arc<LayoutSpec>> = few.iter().map(|b| b.layout.clone()).collect();
   layouts.extend([Arc::new(scripts::natives()), us.clone()]);
+  let tables = [small(), small(), unicode(), unicode(), scripts::odd_table(), Tables::new().no_ranges];
   let script = |n: usize| {
     let seen = Snapshot { handed: 0, entries: vec![], held: None };
     let state = Arc::new([0; 256]);
-    let mut p = Player { seeded, layouts: &layouts, layout: us.clone(), state, steps: vec![], seen };
+    let mut p = Player {
+      seeded,
+      layouts: &layouts,
+      tables: &tables,
+      layout: us.clone(),
+      table: small(),
+      state,
+      steps: vec![],
+      seen,
+    };
     while p.steps.len() < CALLS {
       p.step();
     }

@@ -18,7 +18,7 @@ returns c =
     let l = c .before in
     let k = l .before in
     let s = k .before .before in
-    pressed (s .args .h) (s .args .text) (s .args .all) _ _ _ (c .event-of .ensures) (s .pre) (k .keycode-from-scancode .ensures) (l .logical-key .ensures)
+    pressed (s .args .h) (s .args .several) (s .args .text) (s .args .all) _ _ _ (c .event-of .ensures) (s .pre) (k .keycode-from-scancode .ensures) (l .logical-key .ensures)
 
 pub finalize-spec : {M : Type 1} → statement M
 finalize-spec =

@@ -15,11 +15,11 @@ returns : tie.Need-returns
 returns c =
     let test = c .before in
     let a = start test .args in
-    let r = c .typed-key .ensures in (marked (a .h) (a .text) _ (test .if1 .taken) (r .0), r .1)
+    let r = c .typed-key .ensures in (marked (a .h) (a .several) (a .text) _ (test .if1 .taken) (r .0), r .1)
 
 returns-2 : tie.Need-returns-2
 returns-2 c =
-    let s = c .before .before .before in (not-marked (s .args .h) (s .args .text) _ refl (c .if1 .left), key-lens _ (s .pre .0))
+    let s = c .before .before .before in (not-marked (s .args .h) (s .args .several) (s .args .text) _ refl (c .if1 .left), key-lens _ (s .pre .0))
 
 pub logical-key-spec : {M : Type 1} → statement M
 logical-key-spec =

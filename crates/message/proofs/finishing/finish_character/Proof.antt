@@ -32,14 +32,14 @@ block-in : (c : tie.After-shared-slice-known2) (i : ℕ) → getD (c .before .be
 block-in c i = omega (arith, c .shared-slice-known2 .given i)
 
 area-in : (c : tie.Start) → IsArea (c .args .session .now)
-area-in c = c .pre .stands .area
+area-in c = c .pre .0 .stands .area
 
 waits-in : (c : tie.Start) → findWait (c .args .token .0) (decode (c .args .session .now) .entries) ≡ some character
-waits-in c = character-waits _ _ _ _ _ (c .pre)
+waits-in c = character-waits _ _ _ _ _ (c .pre .0)
 
 -- from the test back to the areas
 abbrev blocks : tie.After-completes → tie.After-shared-slice-known2
-blocks c = c .before .before .before
+blocks c = let tables = c .before .before .before in tables .before
 
 abbrev areas : tie.After-completes → tie.After-slice-known
 areas c = blocks c .before .before .before
@@ -107,11 +107,11 @@ complete-pending-requires c κs =
     let made = forgot .before .before in
     let read = made .before in
     let known = start read in
-    let p = known .before .pre in
+    let p = known .before .pre .0 in
     let f = read-fits _ (area-in (known .before)) (both-in (last read) .0) (bytes-in known) _ (read .held-at .ensures .0) in
     let board = keyboard-at-ok _ (known .before .args .state .now) (block-in (blocks (last read .before))) (p .block-ok) in
     let e = made .char-event .ensures in
-    (same-place _ none _ _ (forgets-in forgot) (p .stands), p .answers, e .1, ap eventFits (e .0) ∙ char-fits _ _ board (f .1) (f .0))
+    (same-place _ none _ _ (forgets-in forgot) (p .stands), p .answers, e .1, ap eventFits (e .0) ∙ char-fits _ _ _ board (f .1) (f .0))
 
 same-length : tie.Need-same-length
 same-length c = search needs
@@ -126,7 +126,7 @@ returns c =
     let forgot = lent .before .before .before .before in
     let made = forgot .before .before in
     let read = made .before in
-    finished _ _ _ _ _ _ (char-done _ _ _ _ (waits-in (start read .before)) _ (read-in read) (both-in (last read) .1) (made .char-event .ensures .0)) _
+    finished _ _ _ _ _ _ _ (char-done _ _ _ _ _ (waits-in (start read .before)) _ (read-in read) (both-in (last read) .1) (made .char-event .ensures .0)) _
     (forgets-in forgot .back) (completed .complete-pending .ensures)
 
 remove-pending-requires : tie.Need-remove-pending-requires
@@ -142,7 +142,7 @@ returns-2 : tie.Need-returns-2
 returns-2 c =
     let removed = c .before .before .before .before in
     let test = removed .before .before .before in
-    finished _ _ _ _ _ _ (char-dropped _ _ _ _ (waits-in (areas (test .before) .before)) (asked-in (test .before) false (test .if1 .left))) _ refl
+    finished _ _ _ _ _ _ _ (char-dropped _ _ _ _ _ (waits-in (areas (test .before) .before)) (asked-in (test .before) false (test .if1 .left))) _ refl
     (removed .remove-pending .ensures)
 
 pub finish-character-spec : {M : Type 1} → statement M

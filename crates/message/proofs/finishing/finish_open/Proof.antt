@@ -20,7 +20,7 @@ bytes-in c i = omega (arith, c .slice-known .given i)
 
 -- from the header back to the areas
 abbrev known : tie.After-header-at → tie.After-slice-known
-known c = let lent = c .before in lent .before .before .before .before
+known c = let lent = c .before in lent .before .before .before .before .before
 
 -- an entry carries the token: from there back to the header, and to the areas
 abbrev head : tie.Else1 → tie.After-header-at
@@ -72,7 +72,7 @@ returns c =
     let p = c .before .before .before .before in
     let head = p .before .before .before .before in
     let a = known head in
-    nothing-left _ (bytes-in a) (a .before .pre .0) _ _ _
+    nothing-left _ (bytes-in a) (a .before .pre .0) _ _ _ _
     (lost _ _ (omega (arith, p .if1 .taken, p .before .before .find .ensures, head .header-at .ensures .2))) (c .before .before .no-events .ensures)
 
 mul-at : tie.Need-mul-at
@@ -111,7 +111,9 @@ enum-told-3 : tie.Need-enum-told-3
 enum-told-3 c = search needs
 
 finish-character-requires : tie.Need-finish-character-requires
-finish-character-requires c κs = found-as (c .before .before .before .before) case.Character (c .before .before .enum-told3 .given .1)
+finish-character-requires c κs =
+    let what = c .before .before .before .before in
+    (found-as what case.Character (c .before .before .enum-told3 .given .1), areas (what .before .before .before) .before .pre .3)
 
 enum-told-4 : tie.Need-enum-told-4
 enum-told-4 c = search needs
@@ -126,7 +128,7 @@ same-length-4 : tie.Need-same-length-4
 same-length-4 c = search needs
 
 returns-2 : tie.Need-returns-2
-returns-2 c = let done = c .before .before .before .before in done .finish-press .ensures
+returns-2 c = let done = c .before .before .before .before in done .finish-press .ensures _
 
 same-length-5 : tie.Need-same-length-5
 same-length-5 c = search needs
@@ -135,7 +137,7 @@ same-length-6 : tie.Need-same-length-6
 same-length-6 c = search needs
 
 returns-3 : tie.Need-returns-3
-returns-3 c = let done = c .before .before .before .before in done .finish-release .ensures
+returns-3 c = let done = c .before .before .before .before in done .finish-release .ensures _
 
 same-length-7 : tie.Need-same-length-7
 same-length-7 c = search needs
@@ -158,7 +160,7 @@ returns-5 c =
     let what = told .before .before in
     let p = what .before .before .before in
     let a = areas p in
-    nothing-left _ (bytes-in a) (a .before .pre .0) _ _ _
+    nothing-left _ (bytes-in a) (a .before .pre .0) _ _ _ _
     (completed _ _ _ _ _ (found-as what case.Complete (told .enum-told4 .given .1)))
     (c .before .before .no-events2 .ensures)
 

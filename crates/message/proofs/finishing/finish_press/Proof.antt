@@ -172,7 +172,7 @@ returns c =
     let set = lent .before .before .before .before in
     let test = set .before .before in
     let m = test .before .before in
-    finished _ _ _ _ _ _ (press-held _ _ _ _ _ _ (waits-in m) _ (made-in m) (held-in test)) _ (sets-in set .back)
+    λ r. finished _ _ r _ _ _ _ (press-held _ _ r _ _ _ _ (waits-in m) _ (made-in m) (held-in test)) _ (sets-in set .back)
     (removed .remove-pending .ensures)
 
 forget-held-requires : tie.Need-forget-held-requires
@@ -204,7 +204,7 @@ returns-2 c =
     let test = removed .before .before .before in
     let k = forgot (test .before) in
     let m = made (test .before) in
-    finished _ _ _ _ _ _ (press-fake _ _ _ _ _ _ (waits-in m) _ (made-in m) (passes-in (k .before .before)) (fake-in test)) _ (forgets-in k .back)
+    λ r. finished _ _ r _ _ _ _ (press-fake _ _ r _ _ _ _ (waits-in m) _ (made-in m) (passes-in (k .before .before)) (fake-in test)) _ (forgets-in k .back)
     (removed .remove-pending2 .ensures)
 
 press-event-requires : tie.Need-press-event-requires
@@ -230,8 +230,8 @@ returns-3 c =
     let test = event .before in
     let k = forgot (test .before) in
     let m = made (test .before) in
-    finished _ _ _ _ _ _
-    (press-done _ _ _ _ _ _ (waits-in m) _ (made-in m) (passes-in (k .before .before)) (real-in test) (event .press-event .ensures .0)) _
+    λ r. finished _ _ r _ _ _ _
+    (press-done _ _ r _ _ _ _ (waits-in m) _ (made-in m) (passes-in (k .before .before)) (real-in test) (event .press-event .ensures .0)) _
     (forgets-in k .back) (completed .complete-pending .ensures)
 
 pub finish-press-spec : {M : Type 1} → statement M

@@ -94,7 +94,7 @@ returns : tie.Need-returns
 returns c =
     let removed = c .before .before .before .before in
     let test = removed .before .before .before in
-    finished _ _ _ _ _ _ (release-fake _ _ _ _ _ (waits-in (test .before .before)) (fake-in test)) _ refl (removed .remove-pending .ensures)
+    λ r. finished _ _ r _ _ _ _ (release-fake _ _ r _ _ _ (waits-in (test .before .before)) (fake-in test)) _ refl (removed .remove-pending .ensures)
 
 release-event-requires : tie.Need-release-event-requires
 release-event-requires c κs = search needs
@@ -119,7 +119,7 @@ returns-2 c =
     let completed = c .before .before .before .before in
     let made = completed .before .before .before in
     let test = made .before in
-    finished _ _ _ _ _ _ (release-done _ _ _ _ _ (waits-in (test .before .before)) (real-in test) (made .release-event .ensures .0)) _ refl
+    λ r. finished _ _ r _ _ _ _ (release-done _ _ r _ _ _ (waits-in (test .before .before)) (real-in test) (made .release-event .ensures .0)) _ refl
     (completed .complete-pending .ensures)
 
 pub finish-release-spec : {M : Type 1} → statement M

@@ -1,0 +1,3 @@
+pub mod Forward
+pub mod Steps
+mod Values
