@@ -1,7 +1,7 @@
 -- The breaks in one pass forward: what the rules ask of the scalar values before is held in a state.
 -- That it finds the breaks of the rules is `several-by` of proofs/Forward.antt.
 -- Assumes nothing.
-use mathlib.Core.Bool.{Bool, true, false, not, _&&_, _||_}
+use mathlib.Core.Bool.{Bool, false, not, _&&_, _||_}
 use mathlib.Core.List.{List, [], _∷_}
 use Prim.Native.Nat.{ℕ}
 use lib.Dec.{eqb}

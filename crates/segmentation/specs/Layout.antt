@@ -2,8 +2,7 @@
 -- the number n of ranges (4), then by columns the first scalar value of each range (4 n), the last of each (4 n) and the kind of each (n), which
 -- is the break class and 16 for a pictographic mark.
 -- Assumes nothing.
-use mathlib.Core.Path.{_≡_}
-use mathlib.Core.Bool.{Bool, true, false, _&&_, _||_}
+use mathlib.Core.Bool.{Bool, false, _&&_, _||_}
 use mathlib.Core.List.{List, [], _∷_}
 use Prim.Native.Nat.{ℕ, zero, suc, _+_, _*_, _/_, _%_}
 use lib.Dec.{eqb, leb, ltb}
