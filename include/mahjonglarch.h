@@ -63,7 +63,7 @@
  * Clearing. When nothing is open and no press is held the session area is zeros again, whatever was typed. The answer area keeps the events
  * of the last answered call, and a session that is given up may hold a press: overwrite both before the memory is given back, in a way that
  * the compiler does not leave out (SecureZeroMemory, explicit_bzero, a loop over a volatile pointer; memset before free can be left out).
- * What a call leaves on the machine's stack, of which it takes about 2,000 bytes, is not cleared.
+ * What a call leaves on the machine's stack, of which it takes about 1,500 bytes, is not cleared.
  */
 #ifndef MAHJONGLARCH_H
 #define MAHJONGLARCH_H

@@ -29,6 +29,18 @@ pub fn move_down(s: &mut [u8], to: usize, gap: usize, count: usize)
     }
 }
 
+// `count` bytes of s from `from`, up to `from + gap`; the two parts may overlap.
+pub fn move_up(s: &mut [u8], from: usize, gap: usize, count: usize)
+    requires { ⌜ from + gap + count ≤ length (now s) ⌝ }
+    ensures { λ _. ⌜ now (s .exit) ≡ splice (from + gap) (take count (drop from (now (s .entry)))) (now (s .entry)) ⌝ }
+{
+    let mut i = count;
+    while 0 < i {
+        i -= 1;
+        s[from + gap + i] = s[from + i];
+    }
+}
+
 // `count` zeros from `at` on.
 pub fn put_zeros(s: &mut [u8], at: usize, count: usize)
     requires { ⌜ at + count ≤ length (now s) ⌝ }

@@ -1,3 +1,4 @@
-mod Units
-mod KeyText
-mod LastCharacter
+mod ControlCounts
+pub mod Given
+pub mod Completed
+pub mod CompletedWith

@@ -1,3 +1,1 @@
-pub mod Texts
-mod TypedKey
-mod Events
+mod PressEvent

@@ -1,5 +1,4 @@
-mod Copy
-mod TextKeys
+mod LayoutKeys
 pub mod Asked
 mod Control
 mod Info

@@ -1,23 +1,23 @@
 // tao's synthesize_kbd_state: which keys a focus change writes, in their order, and their events (create_synthetic).
 ghost use mathlib.Core.Bool.{true};
-ghost use mathlib.Core.List.{[], _∷_, _++_};
+ghost use mathlib.Core.List.{List, [], _∷_, _++_};
 ghost use mathlib.Core.Path.{_≡_};
-ghost use Prim.Native.Nat.{_+_, _≤_, _<_};
+ghost use Prim.Native.Nat.{ℕ, _+_, _≤_, _<_};
 ghost use lib.ListN.{length, take};
 ghost use Rattle.area.specs.Pick.{pick};
+ghost use Rattle.keys.specs.Text.{full, textFrom};
 ghost use Rattle.lookup.specs.Block.{blockOk, mapsOf};
 ghost use Rattle.lookup.specs.Layout.{scanCodeFor};
 ghost use Rattle.session.specs.Focus.{modifierKeys, isOther, othersFrom, focusKeys, written, focusEvents, focusText, syntheticEvent};
-ghost use Rattle.session.specs.Limits.{KEYS, TEXT-MOST, KEY-TEXT-MOST};
-ghost use Rattle.session.specs.Session.{fullKeyFits};
-ghost use Rattle.session.specs.Types.{asText, asKey, asEvent, EventLens};
+ghost use Rattle.session.specs.InBlock.{eventIn, EventIn};
+ghost use Rattle.session.specs.Limits.{KEYS};
 ghost use Rattle.event.specs.Written.{keyboardAt, writtenOf};
+use keys::Key;
+use keys::KeyText;
 use lookup::keyboard_layout::WindowsModifiers;
 use session::ElementState;
 use session::KEY_STATE_SIZE;
 use session::KeyEvent;
-use session::Text;
-use session::TextKey;
 
 // ---- which keys, in which order
 
@@ -152,20 +152,19 @@ pub fn focus_count(state: &[u8], block: &[u8], st: ElementState) -> usize
 // ---- the event of one key
 
 // SCOPE 3.12, the text of a focus event: the logical key's at gain, none at loss.
-fn focus_text(st: ElementState, k: TextKey) -> Text
-    requires { ⌜ (fullKeyFits KEY-TEXT-MOST (asKey k) ≡ true) × (k .text .len ≤ KEY-TEXT-MOST) ⌝ }
-    ensures { λ r. ⌜ (asText r ≡ focusText st (asKey k)) × (r .len ≤ TEXT-MOST) ⌝ }
+fn focus_text(st: ElementState, k: Key) -> KeyText
+    ensures { λ r. ⌜ ((t : List ℕ) → textFrom t r ≡ focusText st (full k t)) ⌝ }
 {
     match st {
-        ElementState::Pressed => crate::character::key_text(k),
-        ElementState::Released => crate::key_event::no_text(),
+        ElementState::Pressed => keys::key_number::to_text(k),
+        ElementState::Released => KeyText::Nothing,
     }
 }
 
-// The event of a key that a focus change writes. Of the modifiers it knows the Caps Lock and Num Lock toggles alone.
+// The event of a key that a focus change writes, in which a dead key stays one. Of the modifiers it knows the Caps Lock and Num Lock toggles alone.
 pub fn synthetic_event(state: &[u8], block: &[u8], st: ElementState, vk: u8) -> KeyEvent
     requires { ⌜ blockOk (now block) ≡ true ⌝ }
-    ensures { λ r. ⌜ (asEvent r ≡ syntheticEvent (keyboardAt (now (state .entry)) (now (block .entry))) st vk (scanCodeFor (mapsOf (now (block .entry))) vk)) × EventLens r ⌝ }
+    ensures { λ r. ⌜ (eventIn (now (block .entry)) r ≡ syntheticEvent (keyboardAt (now (state .entry)) (now (block .entry))) st vk (scanCodeFor (mapsOf (now (block .entry))) vk)) × EventIn (now (block .entry)) r ⌝ }
 {
     let vkey = vk as u16;
     let scancode = lookup::keyboard_layout::scancode_for(block, vkey);
@@ -185,7 +184,8 @@ pub fn synthetic_event(state: &[u8], block: &[u8], st: ElementState, vk: u8) -> 
     let num_lock = lookup::keyboard_layout::num_lock_on(state);
     let logical_key = crate::partial::layout_key(block, toggles, num_lock, vkey, scancode);
     let key_without_modifiers = crate::partial::layout_key(block, none, false, vkey, scancode);
-    let text = focus_text(st, logical_key);
+    let key = logical_key.key;
+    let text = focus_text(st, key);
     let physical_key = lookup::keycode::keycode_from_scancode(scancode);
     let location = lookup::keyboard::get_location(block, scancode);
     KeyEvent {
@@ -196,7 +196,7 @@ pub fn synthetic_event(state: &[u8], block: &[u8], st: ElementState, vk: u8) -> 
         state: st,
         repeat: false,
         is_synthetic: true,
-        text_with_all_modifiers: text,
+        dead: true,
         key_without_modifiers,
     }
 }

@@ -1,4 +1,5 @@
-// The key events that tao makes of presses, releases, characters and focus changes, each as a value. The queue is not known here.
+// What tao makes of presses, releases, characters and focus changes, as values without text: a key of the layout names its text by where it
+// stands in the lent block, and what completes a held press says where text and logical key come from. The queue is not known here.
 // SCOPE and a number is a clause of docs/SCOPE.md.
 pub mod character;
 pub mod fake;

@@ -24,20 +24,13 @@ fn scalar_of(n: Number) -> u32 {
 
 // Puts a scalar value behind the bytes that are there, and answers how many there are then; one that has no room is left out.
 fn put_scalar(out: &mut [u8; 256], len: usize, scalar: u32) -> usize {
-    let e = text::encode_scalar(scalar);
-    let n = e.len;
     if 252 < len {
         return len;
     }
-    if 4 < n {
+    if !text::is_scalar(scalar) {
         return len;
     }
-    let bytes = e.bytes;
-    out[len] = bytes[0];
-    out[len + 1] = bytes[1];
-    out[len + 2] = bytes[2];
-    out[len + 3] = bytes[3];
-    len + n
+    text::put_scalar(out, len, scalar)
 }
 
 // Writes the text of a line, and answers its length.

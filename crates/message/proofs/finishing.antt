@@ -1,2 +1,3 @@
 mod WaitingEntry
 mod FinishEffect
+mod LastCharacter

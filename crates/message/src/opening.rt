@@ -21,7 +21,6 @@ ghost use Rattle.message.specs.Passes.{Passes};
 ghost use Rattle.message.specs.Sorts.{asSort};
 use crate::sorts::MessageSort;
 use session::ElementState;
-use session::HELD_AT;
 use session::OpenAnswer;
 use session::ProcResult;
 
@@ -38,7 +37,7 @@ fn hand_out_focus(answers: &mut [u8], state: &[u8], block: &[u8], st: ElementSta
     let mut i: usize = 0;
     while i < n {
         let e = event::focus::synthetic_event(state, block, st, keys[i]);
-        queue::answers::put_event_at(answers, i, e);
+        queue::answers::put_event_at(answers, i, block, e);
         i += 1;
     }
     queue::answers::close(answers, n);
@@ -55,7 +54,7 @@ fn queue_focus(session: &mut [u8], state: &[u8], block: &[u8], st: ElementState)
     let mut i: usize = 0;
     while i < n {
         let event = event::focus::synthetic_event(state, block, st, keys[i]);
-        queue::pending::add_complete(session, event);
+        queue::pending::add_event(session, block, event);
         i += 1;
     }
 }
@@ -89,7 +88,7 @@ fn open_release(
     let vkey = lookup::keyboard::virtual_key(wparam);
     let l = lookup::keyboard::destructure_key_lparam(lparam);
     let info = event::partial::from_message(state, block, vkey, l);
-    let token = queue::pending::add_release(session, info);
+    let token = queue::pending::add_release(session, block, info);
     queue::answers::no_events(answers);
     OpenAnswer::Opened(token) // the release
 }
@@ -114,9 +113,7 @@ fn open_char(session: &mut [u8], answers: &mut [u8], wparam: u64) -> OpenAnswer
     if !h.held {
         return open_none(answers);
     }
-    let held = record::read::held_at(&session[HELD_AT..]);
-    let more = event::character::with_units(held, wparam);
-    queue::held_press::set_held(session, more);
+    queue::held_press::add_units(session, wparam);
     let token = queue::pending::add_character(session);
     queue::answers::no_events(answers);
     OpenAnswer::Opened(token) // the character
@@ -130,14 +127,13 @@ fn answer_dead_char(session: &mut [u8], answers: &mut [u8]) -> OpenAnswer
     ensures { λ r. ⌜ Gives (deadCharAnswered (decode (now (session .entry))) (decode (now (session .entry)) .held)) r (now (session .exit)) (now (answers .exit)) ⌝ }
 {
     let h = record::read::header_at(session);
-    let held = record::read::held_at(&session[HELD_AT..]);
-    let e = event::key_event::dead_char_event(held);
+    queue::held_event::put_dead_event(session, answers, h.count as usize);
     queue::held_press::forget_held(session);
     if h.count == 0 { // before the dead character
-        queue::answers::one_event(answers, e);
+        queue::answers::one_event(answers);
         return OpenAnswer::OpenedNone;
     }
-    queue::pending::add_complete(session, e);
+    queue::pending::add_complete(session, h);
     queue::answers::no_events(answers);
     OpenAnswer::OpenedNone
 }

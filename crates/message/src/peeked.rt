@@ -4,13 +4,14 @@ ghost use mathlib.Core.List.{List};
 ghost use mathlib.Core.Option.{some};
 ghost use mathlib.Core.Path.{_≡_};
 ghost use Prim.Native.Nat.{ℕ};
+ghost use Rattle.keys.specs.Text.{bareOf};
 ghost use Rattle.lookup.specs.Block.{blockOk};
 ghost use Rattle.session.specs.Builder.{fake};
 ghost use Rattle.session.specs.Calls.{holds, moreComing};
-ghost use Rattle.session.specs.Types.{asInfo};
+ghost use Rattle.session.specs.Event.{Info};
 ghost use Rattle.event.specs.Written.{keyboardAt};
 ghost use Rattle.message.specs.Peeked.{asPeeked};
-use session::PartialKeyEventInfo;
+use keys::Key;
 
 // The peeked message (kind, wParam, lParam), or its absence.
 pub enum Peeked {
@@ -73,14 +74,14 @@ pub(crate) fn completes(held: bool, peeked: Peeked) -> bool
 }
 
 // SCOPE 3.8: whether the key is fake, by what was peeked.
-pub(crate) fn is_fake(block: &[u8], info: PartialKeyEventInfo, peeked: Peeked) -> bool
+pub(crate) fn is_fake(block: &[u8], key: Key, peeked: Peeked) -> bool
     requires { ⌜ blockOk (now block) ≡ true ⌝ }
-    ensures { λ r. ⌜ ((state : List ℕ) → r ≡ fake (keyboardAt state (now (block .entry))) (asInfo info) (asPeeked peeked)) ⌝ }
+    ensures { λ r. ⌜ ((state : List ℕ) (n : Info) → bareOf (n .logicalKey) ≡ key → r ≡ fake (keyboardAt state (now (block .entry))) n (asPeeked peeked)) ⌝ }
 {
     match peeked {
         Peeked::Nothing => false, // no right Alt key behind it
         Peeked::Message(kind, wparam, lparam) => {
-            event::fake::is_current_fake(block, info, kind, wparam, lparam)
+            event::fake::is_current_fake(block, key, kind, wparam, lparam)
         }
     }
 }

@@ -14,7 +14,6 @@ ghost use Rattle.message.specs.Sorts.{asSort};
 use crate::sorts::MessageSort;
 use session::AREA_SIZE;
 use session::ENTRIES_MOST;
-use session::HELD_AT;
 use session::KEY_STATE_SIZE;
 use session::OPEN_MOST;
 use session::PendingMessageToken;
@@ -108,9 +107,9 @@ fn char_units_after(session: &[u8], wparam: u64) -> usize
     if !h.held {
         return 0;
     }
-    let held = record::read::held_at(&session[HELD_AT..]);
+    let held = record::read::unit_count(session);
     let added = text::char_units(wparam);
-    held.len as usize + added.len
+    held + added.len
 }
 
 // How many units are held with it.

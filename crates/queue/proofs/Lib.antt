@@ -1,3 +1,4 @@
 pub mod Sessions
 pub mod Areas
 pub mod HeldPress
+pub mod Standing

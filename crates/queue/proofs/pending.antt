@@ -1,3 +1,3 @@
 mod NewEntry
 mod EntryLoops
-mod EntryOfToken
+pub mod EntryOfToken

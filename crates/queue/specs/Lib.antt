@@ -1,3 +1,5 @@
 pub mod Room
 pub mod Place
 pub mod Changed
+pub mod Stands
+pub mod Completing

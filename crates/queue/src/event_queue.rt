@@ -1,21 +1,26 @@
 // tao's PendingEventQueue::complete_pending and remove_pending, with drain_pending (SCOPE 4.2, 4.3): resolving the first entry empties the queue
 // and hands out the completed ones; any other completed entry waits.
 ghost use mathlib.Core.Bool.{true};
+ghost use mathlib.Core.List.{List};
 ghost use mathlib.Core.Option.{some, none};
 ghost use mathlib.Core.Path.{_≡_};
-ghost use Prim.Native.Nat.{_≤_, _<_};
-ghost use lib.ListN.{length, take, drop};
-ghost use Rattle.session.specs.Area.{decode};
+ghost use Prim.Native.Nat.{ℕ, _≤_, _<_};
+ghost use lib.ListN.{getD, length, take, drop};
+ghost use Rattle.session.specs.Area.{info, decode};
+ghost use Rattle.session.specs.Builder.{releaseEvent};
 ghost use Rattle.session.specs.Calls.{drain};
-ghost use Rattle.session.specs.Limits.{AREA};
+ghost use Rattle.session.specs.Event.{Event};
+ghost use Rattle.session.specs.InBlock.{eventIn, EventIn};
+ghost use Rattle.session.specs.Limits.{AREA, ENTRIES-MOST};
 ghost use Rattle.session.specs.Session.{eventFits};
-ghost use Rattle.session.specs.Types.{asEvent, EventLens};
 ghost use Rattle.queue.specs.Changed.{Does, Written, resolvedBy};
 ghost use Rattle.queue.specs.Place.{StandsAt};
 ghost use Rattle.queue.specs.Room.{IsArea};
+ghost use Rattle.queue.specs.Stands.{EventStands, infoPlace};
 use session::ANSWER_EVENT_SIZE;
 use session::ANSWER_EVENTS_AT;
 use session::ENTRIES_AT;
+use session::ENTRY_EVENT_AT;
 use session::ENTRY_SIZE;
 use session::EVENT_SIZE;
 use session::KeyEvent;
@@ -61,26 +66,50 @@ fn drain_pending(session: &[u8], first: usize, answers: &mut [u8], written: usiz
 
 // ---- complete_pending, remove_pending
 
-// The entry at a place, which carries the token, completed with its event.
+// Writes an event of the layout where that of the entry at a place goes: into the answer area where it is the first entry's, else into the entry.
+pub fn put_event(session: &mut [u8], answers: &mut [u8], place: usize, block: &[u8], e: KeyEvent)
+    requires { ⌜ (length (now session) ≡ AREA) × (length (now answers) ≡ AREA) × (place < ENTRIES-MOST) × EventIn (now block) e ⌝ }
+    ensures { λ _. ⌜ EventStands place (eventIn (now (block .entry)) e) (now (session .entry)) (now (answers .entry)) (now (session .exit)) (now (answers .exit)) ⌝ }
+{
+    if place == 0 {
+        crate::answers::put_event_at(answers, 0, block, e);
+        return;
+    }
+    let at = ENTRIES_AT + ENTRY_SIZE * place + ENTRY_EVENT_AT;
+    record::layout::put_event(session, at, block, e);
+}
+
+// The event of the open release at a place, written where it goes from the release itself: in its own entry its logical key stays where it is.
+pub fn put_release(session: &mut [u8], answers: &mut [u8], place: usize)
+    requires { ⌜ (length (now session) ≡ AREA) × (length (now answers) ≡ AREA) × (place < ENTRIES-MOST) × (info .ok (drop (infoPlace place) (now session)) ≡ true) ⌝ }
+    ensures { λ _. ⌜ EventStands place (releaseEvent (info .get (drop (infoPlace place) (now (session .entry))))) (now (session .entry)) (now (answers .entry)) (now (session .exit)) (now (answers .exit)) ⌝ }
+{
+    let at = ENTRIES_AT + ENTRY_SIZE * place;
+    if place == 0 { // the release in the first entry
+        record::complete::put_release_event(session, at + 5, answers, ANSWER_EVENTS_AT);
+        return;
+    }
+    record::complete::complete_release(session, at);
+}
+
+// The entry at a place, which carries the token, completed with its event, which stands where it goes.
 pub fn complete_pending(
     session: &mut [u8],
     answers: &mut [u8],
     place: usize,
     token: PendingMessageToken,
-    e: KeyEvent,
 )
-    requires { ⌜ StandsAt (now session) (token .0) place × (length (now answers) ≡ AREA) × EventLens e × (eventFits (asEvent e) ≡ true) ⌝ }
-    ensures { λ _. ⌜ Does (resolvedBy (decode (now (session .entry))) (token .0) (some (asEvent e))) (now (session .exit)) (now (answers .exit)) ⌝ }
+    requires { ⌜ (length (now session) ≡ AREA) × (length (now answers) ≡ AREA) × (place < ENTRIES-MOST) × (token .0 < 65536) × (place ≡ 0 → StandsAt (now session) (token .0) place) ⌝ }
+    ensures { λ _. ⌜ ((x y : List ℕ) (e : Event) → ((i : ℕ) → getD x i 0 < 256) → StandsAt x (token .0) place → eventFits e ≡ true → length y ≡ AREA → EventStands place e x y (now (session .entry)) (now (answers .entry)) → Does (resolvedBy (decode x) (token .0) (some e)) (now (session .exit)) (now (answers .exit))) ⌝ }
 {
     if place == 0 { // the event of the first entry
-        crate::answers::put_event_at(answers, 0, e);
         let n = drain_pending(session, 1, answers, 1);
         crate::answers::close(answers, n);
         crate::pending::restart(session);
         return;
     }
     crate::answers::no_events(answers);
-    crate::pending::complete(session, place, token, e);
+    crate::pending::complete(session, place, token);
 }
 
 // The entry at a place, which carries the token, dropped.

@@ -2,5 +2,6 @@
 // SCOPE and a number is a clause of docs/SCOPE.md.
 pub mod answers;
 pub mod event_queue;
+pub mod held_event;
 pub mod held_press;
 pub mod pending;

@@ -1,24 +1,28 @@
 // The entries of tao's PendingEventQueue in a session's area: added, found by their token, completed, dropped.
 ghost use mathlib.Core.Bool.{true};
+ghost use mathlib.Core.List.{List};
 ghost use mathlib.Core.Option.{some, none};
 ghost use mathlib.Core.Path.{_≡_};
-ghost use Prim.Native.Nat.{_+_, _*_, _≤_, _<_};
-ghost use lib.ListN.{length};
+ghost use Prim.Native.Nat.{ℕ, _+_, _*_, _≤_, _<_};
+ghost use lib.ListN.{getD, length};
 ghost use Rattle.area.specs.Bytes.{le};
 ghost use Rattle.area.specs.Splice.{splice};
-ghost use Rattle.session.specs.Area.{encode, decode};
+ghost use Rattle.session.specs.Area.{event, encode, decode};
 ghost use Rattle.session.specs.Calls.{opening};
-ghost use Rattle.session.specs.Limits.{ENTRIES-MOST, TOKENS-MOST, COUNT-AT, ENTRIES-AT, ENTRY-SIZE};
+ghost use Rattle.session.specs.Event.{Event};
+ghost use Rattle.session.specs.InBlock.{infoIn, InfoIn, eventIn, EventIn};
+ghost use Rattle.session.specs.Limits.{AREA, ENTRIES-MOST, TOKENS-MOST, COUNT-AT, ENTRIES-AT, ENTRY-SIZE};
 ghost use Rattle.session.specs.Questions.{lastToken, isToken};
 ghost use Rattle.session.specs.Session.{press, release, character, infoFits, eventFits, openCount};
-ghost use Rattle.session.specs.Types.{asInfo, InfoLens, asEvent, EventLens};
 ghost use Rattle.queue.specs.Changed.{withEvent, withResolved, emptied};
 ghost use Rattle.queue.specs.Place.{placeOfToken, StandsAt};
 ghost use Rattle.queue.specs.Room.{HasRoom, IsArea};
+ghost use Rattle.queue.specs.Stands.{eventPlace};
 use lookup::keyboard::KeyLParam;
 use record::read::Header;
 use session::COUNT_AT;
 use session::ENTRIES_AT;
+use session::ENTRY_EVENT_AT;
 use session::ENTRY_SIZE;
 use session::KeyEvent;
 use session::PartialKeyEventInfo;
@@ -58,13 +62,13 @@ pub fn add_press(session: &mut [u8], vkey: u16, l: KeyLParam) -> PendingMessageT
 }
 
 // An open release behind the last entry.
-pub fn add_release(session: &mut [u8], n: PartialKeyEventInfo) -> PendingMessageToken
-    requires { ⌜ HasRoom (now session) × InfoLens n × (infoFits (asInfo n) ≡ true) ⌝ }
-    ensures { λ r. ⌜ (r .0 ≡ decode (now (session .entry)) .handed) × (now (session .exit) ≡ encode (opening (decode (now (session .entry))) (release (asInfo n)) (decode (now (session .entry)) .held) .after)) ⌝ }
+pub fn add_release(session: &mut [u8], block: &[u8], n: PartialKeyEventInfo) -> PendingMessageToken
+    requires { ⌜ HasRoom (now session) × InfoIn (now block) n × (infoFits (infoIn (now block) n) ≡ true) ⌝ }
+    ensures { λ r. ⌜ (r .0 ≡ decode (now (session .entry)) .handed) × (now (session .exit) ≡ encode (opening (decode (now (session .entry))) (release (infoIn (now (block .entry)) n)) (decode (now (session .entry)) .held) .after)) ⌝ }
 {
     let h = record::read::header_at(session);
     let token = PendingMessageToken(h.handed as u32);
-    record::write::put_release(session, next_place(h), token, n);
+    record::layout::put_release(session, next_place(h), token, block, n);
     count_one(session, h);
     token
 }
@@ -83,15 +87,32 @@ pub fn add_character(session: &mut [u8]) -> PendingMessageToken
 
 // ---- a completed event added (complete_multi)
 
-// A completed event behind the last entry, under a token of its own that nobody is given.
-pub fn add_complete(session: &mut [u8], e: KeyEvent)
-    requires { ⌜ HasRoom (now session) × EventLens e × (eventFits (asEvent e) ≡ true) ⌝ }
-    ensures { λ _. ⌜ now (session .exit) ≡ encode (withEvent (decode (now (session .entry))) (asEvent e)) ⌝ }
+// Where an event behind the last entry goes.
+pub fn next_event(h: Header) -> usize
+    requires { ⌜ h .count < ENTRIES-MOST ⌝ }
+    ensures { λ r. ⌜ r ≡ eventPlace (h .count) ⌝ }
+{
+    next_place(h) + ENTRY_EVENT_AT
+}
+
+// A completed entry behind the last one, under a token of its own that nobody is given. Its event stands there already.
+pub fn add_complete(session: &mut [u8], h: Header)
+    requires { ⌜ (length (now session) ≡ AREA) × (h .count < ENTRIES-MOST) × (h .handed < TOKENS-MOST) ⌝ }
+    ensures { λ _. ⌜ ((x : List ℕ) (e : Event) → ((i : ℕ) → getD x i 0 < 256) → HasRoom x → eventFits e ≡ true → h .handed ≡ decode x .handed → h .count ≡ length (decode x .entries) → now (session .entry) ≡ splice (eventPlace (h .count)) (event .put e) x → now (session .exit) ≡ encode (withEvent (decode x) e)) ⌝ }
+{
+    let token = PendingMessageToken(h.handed as u32);
+    record::write::put_completed(session, next_place(h), token);
+    count_one(session, h);
+}
+
+// A completed entry behind the last one, with an event of the layout.
+pub fn add_event(session: &mut [u8], block: &[u8], e: KeyEvent)
+    requires { ⌜ HasRoom (now session) × EventIn (now block) e × (eventFits (eventIn (now block) e) ≡ true) ⌝ }
+    ensures { λ _. ⌜ now (session .exit) ≡ encode (withEvent (decode (now (session .entry))) (eventIn (now (block .entry)) e)) ⌝ }
 {
     let h = record::read::header_at(session);
-    let token = PendingMessageToken(h.handed as u32);
-    record::write::put_complete(session, next_place(h), token, e);
-    count_one(session, h);
+    record::layout::put_event(session, next_event(h), block, e);
+    add_complete(session, h);
 }
 
 // ---- open messages found and counted
@@ -147,12 +168,12 @@ pub fn open_count(session: &[u8]) -> usize
 
 // ---- an entry completed or dropped; the queue emptied
 
-// The entry at a place, which carries the token, completed with its event.
-pub(crate) fn complete(session: &mut [u8], place: usize, token: PendingMessageToken, e: KeyEvent)
-    requires { ⌜ StandsAt (now session) (token .0) place × EventLens e × (eventFits (asEvent e) ≡ true) ⌝ }
-    ensures { λ _. ⌜ now (session .exit) ≡ encode (withResolved (decode (now (session .entry))) (token .0) (some (asEvent e))) ⌝ }
+// The entry at a place, which carries the token, is complete: its event stands in it already.
+pub(crate) fn complete(session: &mut [u8], place: usize, token: PendingMessageToken)
+    requires { ⌜ (length (now session) ≡ AREA) × (place < ENTRIES-MOST) × (token .0 < 65536) ⌝ }
+    ensures { λ _. ⌜ ((x : List ℕ) (e : Event) → ((i : ℕ) → getD x i 0 < 256) → StandsAt x (token .0) place → eventFits e ≡ true → now (session .entry) ≡ splice (eventPlace place) (event .put e) x → now (session .exit) ≡ encode (withResolved (decode x) (token .0) (some e))) ⌝ }
 {
-    record::write::put_complete(session, ENTRIES_AT + ENTRY_SIZE * place, token, e);
+    record::write::put_completed(session, ENTRIES_AT + ENTRY_SIZE * place, token);
 }
 
 // The entry at a place, which carries the token, dropped.

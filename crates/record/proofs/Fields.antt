@@ -16,9 +16,11 @@ use Rattle.area.specs.Zero.{allZero}
 use Rattle.area.proofs.Bytes.{num-drop, num-split}
 use Rattle.text.specs.Unicode.{wellFormed}
 use Rattle.keys.specs.Key.{keyAt, keyOk}
-use Rattle.keys.specs.Text.{full}
+use Rattle.keys.specs.Text.{full, bareOf}
 use Rattle.keys.specs.Location.{locationAt}
 use Rattle.keys.specs.CodeKey.{codeKeyOk}
+use Rattle.keys.specs.declared.Key.{Key}
+use Rattle.keys.proofs.Full.{bare-full}
 use Rattle.session.specs.Limits.{TEXT-MOST}
 use Rattle.session.specs.Codec.{Codec, byte, number, pair, checked, via, okMany, getMany, listOf}
 use Rattle.session.specs.Area.{flag, state, location, textFrom, textBytes, optText, keyCode, keyTextOk, keyFieldsOk, fullKey}
@@ -214,6 +216,12 @@ module _ (most : ℕ) (l : List ℕ) where
   unfolding fullKey via checked
   key-got =
       rw (pair-got Numbers (textBytes most) 0 7 l numbers-width, pair-got (number 2) _ 0 2 l (number-width 2), pair-got byte _ 2 1 l byte-width, number-at 0 l 2, byte-at 2 l, number-at 3 l 4)
+
+-- the key alone
+pub bare-read :
+    (l : List ℕ) (most n v : ℕ) (k : Key) → n ≡ num 2 0 l → v ≡ num 4 3 l → k ≡ keyAt n (getD l 2 0) v → k ≡ bareOf (fullKey most .get l)
+bare-read l most n v k a b e =
+    e ∙ rw (a, b) (sym (ap bareOf (key-got most l) ∙ bare-full (keyAt (num 2 0 l) (getD l 2 0) (num 4 3 l)) (textBytes most .get (drop 7 l))))
 
 -- ---- a key code: the low 32 bits of its number, then the other 16
 

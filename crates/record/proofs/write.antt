@@ -1,9 +1,3 @@
-mod Parts
-mod Texts
-mod Keys
-mod Events
-mod Records
-mod Units
-mod Held
-mod FreshArea
-mod Entries
+mod Marks
+pub mod Entries
+mod Zeros

@@ -1,95 +1,42 @@
 // Reads the records of the areas, each given the bytes from its first on. docs/AREAS.md has their offsets.
 ghost use mathlib.Core.Bool.{true};
 ghost use mathlib.Core.Path.{_≡_};
-ghost use Prim.Native.Nat.{_+_, _≤_, _*_};
-ghost use lib.ListN.{length, take};
-ghost use Rattle.session.specs.Area.{textBytes, fullKey, info, held, pressed, entry, decode};
-ghost use Rattle.session.specs.Codec.{number, getMany};
-ghost use Rattle.session.specs.Limits.{TEXT-MOST, UNITS-MOST, ENTRIES-MOST, ENTRIES-AT, ENTRY-SIZE, HELD-SIZE, INFO-SIZE};
+ghost use Prim.Native.Nat.{_≤_, _*_};
+ghost use lib.ListN.{length, drop};
+ghost use Rattle.keys.specs.Text.{bareOf};
+ghost use Rattle.session.specs.Area.{fullKey, held, pressed, entry, decode};
+ghost use Rattle.session.specs.Codec.{getMany};
+ghost use Rattle.session.specs.Limits.{KEY-TEXT-MOST, UNITS-MOST, ENTRIES-MOST, ENTRIES-AT, HELD-AT, ENTRY-SIZE};
 ghost use Rattle.session.specs.Questions.{isHeld};
 ghost use Rattle.session.specs.Session.{tokenOf, openCount};
-ghost use Rattle.session.specs.Types.{asBytes, asKey, asInfo, asHeld, InfoLens};
 ghost use Rattle.record.specs.Pending.{pendingOf};
+use keys::Key;
 use lookup::keyboard::KeyLParam;
 use session::COUNT_AT;
 use session::ENTRY_SIZE;
-use session::HeldPress;
-use session::KEY_TEXT_MOST;
-use session::PartialKeyEventInfo;
+use session::HELD_AT;
 use session::PendingMessageToken;
-use session::TEXT_MOST;
-use session::Text;
-use session::TextKey;
-use session::UNITS_MOST;
 
-// ---- texts and keys
+// ---- keys
 
-fn text_at(s: &[u8], most: usize) -> Text
-    requires { ⌜ (1 + most ≤ length (now s)) × (most ≤ TEXT-MOST) × (textBytes most .ok (now s) ≡ true) ⌝ }
-    ensures { λ r. ⌜ (asBytes r ≡ textBytes most .get (now (s .entry))) × (r .len ≤ most) × (length (asBytes r) ≡ r .len) ⌝ }
-{
-    let mut bytes = [0u8; TEXT_MOST];
-    let n = s[0] as usize;
-    let mut i: usize = 0;
-    while i < n {
-        bytes[i] = s[1 + i];
-        i += 1;
-    }
-    Text { bytes, len: s[0] }
-}
-
-fn key_at(s: &[u8], most: usize) -> TextKey
-    requires { ⌜ (8 + most ≤ length (now s)) × (most ≤ TEXT-MOST) × (fullKey most .ok (now s) ≡ true) ⌝ }
-    ensures { λ r. ⌜ (asKey r ≡ fullKey most .get (now (s .entry))) × (r .text .len ≤ most) ⌝ }
+// The key without its text.
+pub fn bare_key_at(s: &[u8]) -> Key
+    requires { ⌜ 7 ≤ length (now s) ⌝ }
+    ensures { λ r. ⌜ r ≡ bareOf (fullKey KEY-TEXT-MOST .get (now (s .entry))) ⌝ }
 {
     let number = area::get_u16(s, 0);
     let value = area::get_u32(s, 3);
-    TextKey {
-        key: keys::key_number::key_at(number, s[2], value),
-        text: text_at(&s[7..], most),
-    }
+    keys::key_number::key_at(number, s[2], value)
 }
 
-// ---- what is kept of a press or a release; the held press
+// ---- the held press
 
-pub fn info_at(s: &[u8]) -> PartialKeyEventInfo
-    requires { ⌜ (INFO-SIZE ≤ length (now s)) × (info .ok (now s) ≡ true) ⌝ }
-    ensures { λ r. ⌜ (asInfo r ≡ info .get (now (s .entry))) × InfoLens r ⌝ }
+// How many units the held press has.
+pub fn unit_count(session: &[u8]) -> usize
+    requires { ⌜ (ENTRIES-AT ≤ length (now session)) × (held .ok (drop HELD-AT (now session)) ≡ true) ⌝ }
+    ensures { λ r. ⌜ (r ≡ length (held .get (drop HELD-AT (now (session .entry))) .units)) × (r ≤ UNITS-MOST) ⌝ }
 {
-    PartialKeyEventInfo {
-        scancode: area::get_u16(s, 0),
-        is_repeat: s[2] == 1,
-        location: keys::native_code::location_at(s[3]),
-        logical_key: key_at(&s[4..], KEY_TEXT_MOST),
-        key_without_modifiers: key_at(&s[36..], KEY_TEXT_MOST),
-    }
-}
-
-// n units, zeros behind.
-fn units_at(s: &[u8], n: usize) -> [u16; UNITS_MOST]
-    requires { ⌜ (2 * n ≤ length (now s)) × (n ≤ UNITS-MOST) ⌝ }
-    ensures { λ r. ⌜ take n r ≡ getMany (number 2) n (now (s .entry)) ⌝ }
-{
-    let mut units = [0u16; UNITS_MOST];
-    let mut i: usize = 0;
-    while i < n {
-        units[i] = area::get_u16(s, 2 * i);
-        i += 1;
-    }
-    units
-}
-
-pub fn held_at(s: &[u8]) -> HeldPress
-    requires { ⌜ (HELD-SIZE ≤ length (now s)) × (held .ok (now s) ≡ true) ⌝ }
-    ensures { λ r. ⌜ (asHeld r ≡ held .get (now (s .entry))) × InfoLens (r .info) × (r .len ≤ UNITS-MOST) ⌝ }
-{
-    HeldPress {
-        info: info_at(s),
-        vkey: area::get_u16(s, 68),
-        mark: s[70] == 1,
-        units: units_at(&s[72..], s[71] as usize),
-        len: s[71],
-    }
+    session[HELD_AT + 71] as usize
 }
 
 // ---- entries and header

@@ -116,7 +116,7 @@ unfolding optTextFits
 opt-exact [] f = (refl, refl)
 opt-exact (b ∷ t) f = (text-fits TEXT-MOST (b ∷ t) (omega arith) (f .0) (f .1), refl)
 
-opt-sound : Sound optText (λ o. optTextFits o ≡ true)
+pub opt-sound : Sound optText (λ o. optTextFits o ≡ true)
 unfolding optText
 opt-sound = via-sound bytesOf textFrom (text-sound TEXT-MOST (omega arith)) opt-back opt-exact
 
@@ -200,7 +200,7 @@ full-key-exact most n f =
     let o = and-eq-true-iff (keyOk (n .0 .0) (n .0 .1 .0) (n .0 .1 .1)) (keyTextOk (n .0 .0) (length (n .1))) .0 (f .1) in
     fields-exact most (n .0 .0) (n .0 .1 .0) (n .0 .1 .1) (n .1) (f .0 .1 .0) (f .0 .1 .1) (o .0) (o .1)
 
-key-sound : (most : ℕ) → most < 256 → Sound (fullKey most) (λ k. fullKeyFits most k ≡ true)
+pub key-sound : (most : ℕ) → most < 256 → Sound (fullKey most) (λ k. fullKeyFits most k ≡ true)
 unfolding fullKey
 key-sound most h =
     let numbers = pair-sound (number-sound 2) (pair-sound byte-sound (number-sound 4)) in
@@ -295,7 +295,7 @@ held-fits : (h : Held) → infoFits (h .info) ≡ true → h .vkey < WORD → Al
 unfolding heldFits
 held-fits h a b c = rw (a, lt-ltb (h .vkey) WORD b) (units-fit (h .units) c)
 
-held-sound : Sound held HeldFits
+pub held-sound : Sound held HeldFits
 unfolding held
 held-sound =
     via-sound _ _

@@ -69,7 +69,7 @@ forced-code true c =
     chosen (Each KeyFits) (eqb (codeNumber c) _) (named-fits KEY-TEXT-MOST numLock (forced-named .0))
     (chosen (Each KeyFits) (eqb (codeNumber c) _) (named-fits KEY-TEXT-MOST pause (forced-named .1)) tt)
 
-forced-fits : (b : Keyboard) (scancode : ℕ) → Each KeyFits (forcedKey b scancode)
+pub forced-fits : (b : Keyboard) (scancode : ℕ) → Each KeyFits (forcedKey b scancode)
 unfolding forcedKey
 forced-fits b scancode = forced-code (modifiersIn b .control) (keyCodeOf scancode)
 
@@ -187,7 +187,7 @@ pub dead-fits : (h : Held) → heldFits (some h) ≡ true → length (h .units) 
 unfolding deadCharEvent
 dead-fits h e u = finalize-fits h false none (typedText (h .units)) e no-text (typed-fits (h .units) u)
 
-last-text-fits :
+pub last-text-fits :
     (b : Keyboard) (h : Held) → KeyboardOk b → heldFits (some h) ≡ true → length (h .units) ≤ UNITS-MOST →
     optTextFits (lastText b h) ≡ true
 unfolding lastText

@@ -1,7 +1,7 @@
 pub mod Limits
 pub mod Given
 pub mod Event
-pub mod Types
+pub mod InBlock
 pub mod Builder
 pub mod Focus
 pub mod Session

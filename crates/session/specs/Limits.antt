@@ -65,6 +65,10 @@ EVENT-SIZE = 196
 abbrev pub ENTRY-SIZE : ℕ
 ENTRY-SIZE = 199
 
+-- where the event of a completed entry begins in it
+abbrev pub ENTRY-EVENT-AT : ℕ
+ENTRY-EVENT-AT = 3
+
 -- an event in the answer area
 abbrev pub ANSWER-EVENT-SIZE : ℕ
 ANSWER-EVENT-SIZE = 196

@@ -1,8 +1,9 @@
 // What the calls answer, as types: key events, the held press, tokens, message results, refusals. No code runs here;
 // specs/ says what open and finish answer. SCOPE and a number is a clause of docs/SCOPE.md.
-use keys::Key;
 use keys::KeyLocation;
+use keys::KeyText;
 use keys::key_code::KeyCode;
+use lookup::keyboard_layout::LayoutKey;
 
 // ---- limits and sizes, as specs/Limits names them
 
@@ -32,6 +33,8 @@ pub const EVENT_SIZE: usize = 196;
 
 pub const ENTRY_SIZE: usize = 199;
 
+pub const ENTRY_EVENT_AT: usize = 3;
+
 pub const ANSWER_EVENT_SIZE: usize = 196;
 
 pub const HELD_FIELD_AT: usize = 2;
@@ -46,54 +49,54 @@ pub const ANSWER_EVENTS_AT: usize = 2;
 
 // ---- events
 
-// A text in UTF-8, zeros behind; of length 0 where there is none.
-pub struct Text {
-    pub bytes: [u8; 48],
-    pub len: u8,
-}
-
-// A key and its text, which a character has and no other key.
-pub struct TextKey {
-    pub key: Key,
-    pub text: Text,
-}
-
 // tao's ElementState (event.rs).
 pub enum ElementState {
     Pressed,
     Released,
 }
 
-// tao's KeyEvent (event.rs) with KeyEventExtra's two fields, the last two, and MessageAsKeyEvent's is_synthetic.
-pub struct KeyEvent {
-    pub physical_key: KeyCode,
-    pub logical_key: TextKey,
-    pub text: Text,
-    pub location: KeyLocation,
-    pub state: ElementState,
-    pub repeat: bool,
-    pub is_synthetic: bool,
-    pub text_with_all_modifiers: Text,
-    pub key_without_modifiers: TextKey,
-}
+// ---- what is read from the layout and not written yet: the texts of its keys stand in the block
 
-// What tao's PartialKeyEventInfo holds for presses and releases alike; the key code is the scan code's.
+// What tao's PartialKeyEventInfo holds for presses and releases alike; the key code is the scan code's. A dead key without modifiers becomes its
+// character where it is written.
 pub struct PartialKeyEventInfo {
     pub scancode: u16,
     pub is_repeat: bool,
     pub location: KeyLocation,
-    pub logical_key: TextKey,
-    pub key_without_modifiers: TextKey,
+    pub logical_key: LayoutKey,
+    pub key_without_modifiers: LayoutKey,
 }
 
-// A press whose text is still coming. The mark is tao's PartialLogicalKey::TextOr: a typed text may become the logical key.
-pub struct HeldPress {
-    pub info: PartialKeyEventInfo,
-    pub vkey: u16,
-    pub mark: bool,
-    pub units: [u16; 16],
-    pub len: u8,
+// tao's KeyEvent (event.rs) with KeyEventExtra's key_without_modifiers and MessageAsKeyEvent's is_synthetic. Its two texts are one, which the logical
+// key gives; where `dead` is set a dead key without modifiers stays one.
+pub struct KeyEvent {
+    pub physical_key: KeyCode,
+    pub logical_key: LayoutKey,
+    pub text: KeyText,
+    pub location: KeyLocation,
+    pub state: ElementState,
+    pub repeat: bool,
+    pub is_synthetic: bool,
+    pub dead: bool,
+    pub key_without_modifiers: LayoutKey,
 }
+
+// ---- what completes a held press
+
+// Its text: that of its units, or what a key of the layout gives.
+pub enum LastText {
+    Typed,
+    Layout(LayoutKey, KeyText),
+}
+
+// Its logical key: the one that it was held with, none that is known, or its text.
+pub enum LastKey {
+    Held,
+    Unidentified,
+    Text,
+}
+
+// ---- what the calls answer
 
 // tao's ProcResult (event_loop.rs): what the window procedure returns, an LRESULT or the default procedure's.
 pub enum ProcResult {

@@ -1,22 +1,20 @@
-// UTF-16 units and the text that they have.
-ghost use mathlib.Core.Bool.{true};
+// UTF-16 units that stand in an area, two bytes each, and the text that they have, written into an area.
 ghost use mathlib.Core.Path.{_≡_};
-ghost use Prim.Native.Nat.{_+_, _≤_};
+ghost use Prim.Native.Nat.{_+_, _*_, _≤_};
 ghost use lib.ListN.{length, drop};
-ghost use Rattle.area.specs.Splice.{splice};
-ghost use Rattle.text.specs.Stored.{stored};
-ghost use Rattle.text.specs.Unicode.{scalar, utf8Of, utf16Step, textOf};
+ghost use Rattle.text.specs.Placed.{unitsAt, Put};
+ghost use Rattle.text.specs.Unicode.{utf16Step};
 use crate::Step;
-use crate::Utf8Text;
 
-// The step of UTF-16 from i on: a high surrogate stands before a low one.
-fn utf16_step(units: &[u16], i: usize) -> Step
-    ensures { λ r. ⌜ r ≡ utf16Step (drop i (now (units .entry))) ⌝ }
+// The step of UTF-16 from unit i on, of the n units that stand at `from`.
+fn utf16_step(s: &[u8], from: usize, n: usize, i: usize) -> Step
+    requires { ⌜ from + 2 * n ≤ length (now s) ⌝ }
+    ensures { λ r. ⌜ r ≡ utf16Step (drop i (unitsAt n (drop from (now (s .entry))))) ⌝ }
 {
-    if units.len() <= i {
+    if n <= i {
         return Step::Bad;
     }
-    let u = units[i] as u32;
+    let u = area::get_u16(s, from + 2 * i) as u32;
     if u < 0xD800 {
         return Step::Scalar(u, 1);
     }
@@ -26,10 +24,10 @@ fn utf16_step(units: &[u16], i: usize) -> Step
     if 0xDC00 <= u {
         return Step::Bad;
     }
-    if units.len() - i < 2 {
+    if n - i < 2 {
         return Step::Bad;
     }
-    let v = units[i + 1] as u32;
+    let v = area::get_u16(s, from + 2 * i + 2) as u32;
     if v < 0xDC00 {
         return Step::Bad;
     }
@@ -39,49 +37,46 @@ fn utf16_step(units: &[u16], i: usize) -> Step
     Step::Scalar(0x10000 + u % 0x400 * 0x400 + v % 0x400, 2)
 }
 
-// Writes a scalar value's bytes, and says where the next go.
-fn append_scalar(out: &mut [u8; 48], at: usize, c: u32) -> usize
-    requires { ⌜ (scalar c ≡ true) × (at + length (utf8Of c) ≤ 48) ⌝ }
-    ensures { λ r. ⌜ (r ≡ at + length (utf8Of c)) × (now (out .exit) ≡ splice at (utf8Of c) (now (out .entry))) ⌝ }
+// SCOPE 3.12: writes the text of the n units at `from` of src to dst at `at`, and says its length, 0 where they have none.
+pub fn put_text(src: &[u8], from: usize, n: usize, dst: &mut [u8], at: usize) -> usize
+    requires { ⌜ (from + 2 * n ≤ length (now src)) × (n ≤ 16) × (at + 48 ≤ length (now dst)) ⌝ }
+    ensures { λ r. ⌜ Put (unitsAt n (drop from (now (src .entry)))) at (now (dst .entry)) (now (dst .exit)) r ⌝ }
 {
-    let e = crate::encode_scalar(c);
-    let bytes = e.bytes;
-    let len = e.len;
-    let mut k: usize = 0;
-    while k < len {
-        out[at + k] = bytes[k];
-        k += 1;
-    }
-    at + len
-}
-
-// SCOPE 3.12: the text of some UTF-16 units, which are those of one key press.
-pub fn utf16_text(units: &[u16]) -> Utf8Text
-    requires { ⌜ length (now units) ≤ 16 ⌝ }
-    ensures { λ r. ⌜ r ≡ stored (textOf (now (units .entry))) ⌝ }
-{
-    let mut out = [0u8; 48];
-    let mut at: usize = 0;
+    let mut to = at;
     let mut i: usize = 0;
-    while i < units.len() {
-        let step = utf16_step(units, i);
+    while i < n {
+        let step = utf16_step(src, from, n, i);
         match step {
             Step::Bad => {
-                return Utf8Text {
-                    bytes: [0u8; 48],
-                    len: 0,
-                    valid: false,
-                };
+                return 0;
             }
-            Step::Scalar(c, n) => {
-                at = append_scalar(&mut out, at, c);
-                i += n;
+            Step::Scalar(c, k) => {
+                to = crate::put_scalar(dst, to, c);
+                i += k;
             }
         }
     }
-    Utf8Text {
-        bytes: out,
-        len: at,
-        valid: true,
+    to - at
+}
+
+// The same within one area: the units stand before the text's place.
+pub fn put_text_within(s: &mut [u8], from: usize, n: usize, at: usize) -> usize
+    requires { ⌜ (from + 2 * n ≤ at) × (n ≤ 16) × (at + 48 ≤ length (now s)) ⌝ }
+    ensures { λ r. ⌜ Put (unitsAt n (drop from (now (s .entry)))) at (now (s .entry)) (now (s .exit)) r ⌝ }
+{
+    let mut to = at;
+    let mut i: usize = 0;
+    while i < n {
+        let step = utf16_step(s, from, n, i);
+        match step {
+            Step::Bad => {
+                return 0;
+            }
+            Step::Scalar(c, k) => {
+                to = crate::put_scalar(s, to, c);
+                i += k;
+            }
+        }
     }
+    to - at
 }

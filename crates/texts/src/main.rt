@@ -84,16 +84,19 @@ fn show_text(row: [u16; 4]) {
     if 3 < n {
         return;
     }
-    let units = &row[1..n + 1];
-    show_units(units);
+    show_units(&row[1..n + 1]);
     io::write_all(STDOUT_FILENO, b"->");
-    let text = text::utf16::utf16_text(units);
-    let bytes = text.bytes;
-    if text.valid {
-        show_start(bytes, text.len);
-        io::write_all(STDOUT_FILENO, b"\n");
-    } else {
+    let mut units = [0u8; 6];
+    area::put_u16(&mut units, 0, row[1]);
+    area::put_u16(&mut units, 2, row[2]);
+    area::put_u16(&mut units, 4, row[3]);
+    let mut bytes = [0u8; 48];
+    let len = text::utf16::put_text(&units, 0, n, &mut bytes, 0);
+    if len == 0 {
         io::write_all(STDOUT_FILENO, b" none\n");
+    } else {
+        show_start(bytes, len);
+        io::write_all(STDOUT_FILENO, b"\n");
     }
 }
 

@@ -89,17 +89,19 @@ fn look_up(block: &[u8], rounds: u64) -> u64 {
     found
 }
 
-// One conversion of sixteen units, of which the first changes: 1 where they have a text.
-fn convert_one(i: u64) -> u64
+// One conversion of sixteen units into the area, 1 where they have a text. The first changes, and the others are 0.
+fn convert_one(bytes: &mut [u8], i: u64) -> u64
     ensures { λ r. ⌜ r ≤ 1 ⌝ }
 {
-    let mut units = [0x0031u16; 16];
-    units[0] = (i % 0x8000) as u16;
-    let text = text::utf16::utf16_text(&units);
-    if text.valid {
-        return 1;
+    if bytes.len() < 48 {
+        return 0;
     }
-    0
+    let mut units = [0u8; 32];
+    area::put_u16(&mut units, 0, (i % 0x8000) as u16);
+    if text::utf16::put_text(&units, 0, 16, bytes, 0) == 0 {
+        return 0;
+    }
+    1
 }
 
 // One scan of an area for zeros, 1 where it finds nothing else.
@@ -128,7 +130,7 @@ fn one(what: u8, bytes: &mut [u8], i: u64) -> u64
         return check_table_one(bytes, i);
     }
     if what == b't' {
-        return convert_one(i);
+        return convert_one(bytes, i);
     }
     scan_one(bytes, i)
 }

@@ -9,6 +9,7 @@ use std::sync::Arc;
 use tao_oracle::run_script;
 
 mod format;
+mod lengths;
 mod scripts;
 mod seeded;
 
@@ -129,6 +130,9 @@ fn hand_on(script: &mut Script) {
   }
 }
 
+/// The bytes that crates/replay has room for.
+const SPACE: usize = 524_288;
+
 pub struct Files {
   pub calls: Vec<u8>,
   pub stdout: String,
@@ -142,6 +146,9 @@ fn all(us: &LayoutSpec) -> Vec<Script> {
     all.push(Script { name: name.into(), steps: steps(&mut seeded, calls) });
   }
   all.extend(seeded::scripts(&mut seeded, &us));
+  for (name, calls) in lengths::scripts() {
+    all.push(Script { name, steps: steps(&mut seeded, calls) });
+  }
   all.iter_mut().for_each(hand_on);
   all
 }
@@ -150,6 +157,7 @@ pub fn output(us: &LayoutSpec) -> Files {
   let all = all(us);
   let answers: Vec<Vec<Answer>> = all.iter().map(answers).collect();
   let calls = format::write(&all, &answers);
+  assert!(calls.len() <= SPACE, "{} bytes", calls.len());
 
   let mut stdout = String::new();
   let mut sum = (0, 0);

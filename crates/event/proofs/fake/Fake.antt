@@ -6,14 +6,12 @@ use mathlib.Core.List.{List, []}
 use mathlib.Core.Option.{some}
 use Prim.Native.Nat.{ℕ}
 use lib.Dec.{eqb}
-use Rattle.keys.specs.Text.{full}
+use Rattle.keys.specs.Text.{FullKey, named, character, unidentified, dead, deadChar, full, bareOf}
 use Rattle.keys.specs.declared.Key.{Key}
-use Rattle.keys.specs.declared.Key.the-variants.{Named, Character, Unidentified, Dead, DeadChar}
 use Rattle.lookup.specs.LParam.{exScancodeOf}
 use Rattle.lookup.specs.Block.{mapsOf}
 use Rattle.session.specs.Builder.{isControl, fake}
-use Rattle.session.specs.Types.{asBytes, asKey, asInfo}
-use Rattle.session.specs.declared.PartialKeyEventInfo.{PartialKeyEventInfo}
+use Rattle.session.specs.Event.{Info}
 use Rattle.event.specs.Written.{keyboardAt}
 
 -- ---- is_control
@@ -21,38 +19,35 @@ use Rattle.event.specs.Written.{keyboardAt}
 pub told : (key k : Key) → key ≡ k → isControl (full k []) ≡ isControl (full key [])
 told key k e = rw e refl
 
--- Control has no text
-with-text : (k : Key) (t : List ℕ) → isControl (full k t) ≡ isControl (full k [])
-unfolding isControl full
-with-text (Named n) t = refl
-with-text Character t = refl
-with-text (Unidentified c) t = refl
-with-text Dead t = refl
-with-text (DeadChar c) t = refl
-
 -- ---- is_current_fake
 
-pub control-as :
-    (n : PartialKeyEventInfo) {key : Key} {control : Bool} → control ≡ isControl (full key []) → key ≡ n .«logical_key» .key →
-    isControl (asInfo n .logicalKey) ≡ control
-unfolding asInfo asKey
-control-as n c same =
-    with-text (n .«logical_key» .key) (asBytes (n .«logical_key» .text)) ∙ sym (c ∙ ap (λ (k : Key). isControl (full k [])) same)
+-- Control is told by its case alone: it has no text
+bare-control : (k : FullKey) → isControl (full (bareOf k) []) ≡ isControl k
+unfolding isControl full bareOf
+bare-control (named n) = refl
+bare-control (character t) = refl
+bare-control (unidentified c) = refl
+bare-control dead = refl
+bare-control (deadChar c) = refl
 
-module _ (block : List ℕ) (n : PartialKeyEventInfo) (kind wparam lparam : ℕ) where
+module _ (block : List ℕ) (key : Key) (kind wparam lparam : ℕ) where
   abbrev Answers : Bool → Type 0
   Answers r =
-      (state : List ℕ) → r ≡ fake (keyboardAt state block) (asInfo n) (some (record { kind = kind; wparam = wparam; lparam = lparam }))
+      (state : List ℕ) (n : Info) → bareOf (n .logicalKey) ≡ key →
+      r ≡ fake (keyboardAt state block) n (some (record { kind = kind; wparam = wparam; lparam = lparam }))
 
   pub no-flag : mapsOf block .hasAltGraph ≡ false → Answers false
   unfolding fake
-  no-flag g state = rw g refl
+  no-flag g state n k = rw g refl
 
-  pub not-control : mapsOf block .hasAltGraph ≡ true → isControl (asInfo n .logicalKey) ≡ false → Answers false
-  unfolding fake
-  not-control g c state = rw (g, c) refl
+  case-as : {control : Bool} → control ≡ isControl (full key []) → (n : Info) → bareOf (n .logicalKey) ≡ key → isControl (n .logicalKey) ≡ control
+  case-as c n k = sym (c ∙ sym (ap (λ (x : Key). isControl (full x [])) k) ∙ bare-control (n .logicalKey))
 
-  pub by-scancode :
-      mapsOf block .hasAltGraph ≡ true → isControl (asInfo n .logicalKey) ≡ true → (s : ℕ) → s ≡ exScancodeOf lparam → Answers (eqb s 0xE038)
-  unfolding fake
-  by-scancode g c s e state = rw (g, c, e) refl
+  module _ (g : mapsOf block .hasAltGraph ≡ true) {control : Bool} (c : control ≡ isControl (full key [])) where
+    pub not-control : control ≡ false → Answers false
+    unfolding fake
+    not-control h state n k = rw (g, case-as c n k, h) refl
+
+    pub by-scancode : control ≡ true → (s : ℕ) → s ≡ exScancodeOf lparam → Answers (eqb s 0xE038)
+    unfolding fake
+    by-scancode h s e state n k = rw (g, case-as c n k, h, e) refl

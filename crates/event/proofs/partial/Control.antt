@@ -9,11 +9,15 @@ use borrow.Author.Tests.{not-true, not-false}
 use Rattle.area.specs.Look.{assoc}
 use Rattle.area.proofs.Switch.{Rest, missed}
 use Rattle.keys.specs.Places.{numLock, pause}
-use Rattle.keys.specs.Text.{FullKey, named, full}
+use Rattle.keys.specs.Text.{FullKey, named, character, unidentified, dead, deadChar, full, bareOf}
 use Rattle.keys.specs.declared.Key.{Key}
 use Rattle.keys.specs.declared.key_code.KeyCode.{KeyCode}
 use Rattle.keys.specs.Number.{codeNumber}
-use Rattle.session.specs.Builder.{codeAsKey, isCharacter}
+use Rattle.lookup.specs.Modifiers.{activeModifiers}
+use Rattle.lookup.specs.declared.keyboard_layout.WindowsModifiers.{WindowsModifiers}
+use Rattle.session.specs.Builder.{codeAsKey, isCharacter, markOf}
+use Rattle.session.specs.Event.{Info}
+use Rattle.event.specs.Written.{keyboardAt}
 
 -- ---- forced_key
 
@@ -63,3 +67,24 @@ pub marked :
 marked key k control off e =
     let b = isCharacter (full key []) in
     sym (ap (λ (x : Key). isCharacter (full x [])) e) ∙ free b ∙ sym (ap (λ (x : Bool). b && not x) off)
+
+-- ---- press_mark
+
+-- a character is one by its case alone
+bare-character : (k : FullKey) → isCharacter (full (bareOf k) []) ≡ isCharacter k
+unfolding isCharacter full bareOf
+bare-character (named n) = refl
+bare-character (character t) = refl
+bare-character (unidentified c) = refl
+bare-character dead = refl
+bare-character (deadChar c) = refl
+
+pub mark-as :
+    (state : List ℕ) {key : Key} {mods : WindowsModifiers} {mark on : Bool} → mods ≡ activeModifiers state →
+    mark ≡ (isCharacter (full key []) && not on) → on ≡ mods .control →
+    (block : List ℕ) (n : Info) → bareOf (n .logicalKey) ≡ key → mark ≡ markOf (keyboardAt state block) n
+unfolding markOf
+mark-as state m e same block n k =
+    let b = sym (ap (λ (x : Key). isCharacter (full x [])) k) ∙ bare-character (n .logicalKey) in
+    let control = same ∙ ap (λ (x : WindowsModifiers). x .control) m in
+    e ∙ (λ i. b i && not (control i))

@@ -1,39 +1,39 @@
--- What from_message and press answer, from what they asked.
+-- What from_message answers, from what it asked.
 -- Assumes nothing.
-use mathlib.Core.Path.{_≡_, refl, sym, ap, _∙_}
-use mathlib.Core.Bool.{Bool, not, _&&_}
-use mathlib.Core.List.{List, []}
+use mathlib.Core.Path.{_≡_, sym, ap, subst, _∙_}
+use mathlib.Core.Bool.{Bool}
+use mathlib.Core.List.{List}
 use mathlib.Core.Option.{Option, some, none}
-use Prim.Native.Nat.{ℕ, _≤_}
-use native.Mathlib.Omega.{arith}
+use Prim.Native.Nat.{ℕ}
 use borrow.Author.Tests.{ne-eqb, eq-eqb}
 use Rattle.area.specs.Pick.{pick}
 use Rattle.keys.specs.Text.{FullKey, named, full}
-use Rattle.keys.specs.declared.Key.{Key}
-use Rattle.keys.specs.declared.Key.the-variants.{Named, Character, Unidentified, Dead, DeadChar}
+use Rattle.keys.specs.declared.Key.the-variants.{Named}
 use Rattle.keys.specs.declared.KeyLocation.{KeyLocation}
 use Rattle.keys.specs.declared.key_code.KeyCode.{KeyCode}
 use Rattle.lookup.specs.Block.{mapsOf}
 use Rattle.lookup.specs.Codes.{keyCodeOf}
-use Rattle.lookup.specs.Layout.{messageScancode, orElse, asNamed}
+use Rattle.lookup.specs.Layout.{messageScancode, orElse, asNamed, keyIn}
 use Rattle.lookup.specs.Location.{locationOf}
 use Rattle.lookup.specs.Modifiers.{activeModifiers}
 use Rattle.lookup.specs.declared.keyboard.KeyLParam.{KeyLParam}
+use Rattle.lookup.specs.declared.keyboard_layout.LayoutKey.{LayoutKey}
 use Rattle.lookup.specs.declared.keyboard_layout.WindowsModifiers.{WindowsModifiers}
-use Rattle.session.specs.Builder.{Keyboard, layoutKey, plainKey, codeAsKey, forcedKey, undead, fromMessage, isCharacter, markOf, heldOf}
-use Rattle.session.specs.Event.{Info}
-use Rattle.session.specs.Limits.{KEY-TEXT-MOST}
-use Rattle.session.specs.Types.{asBytes, asKey, asInfo, asHeld, InfoLens}
+use Rattle.lookup.proofs.keyboard_layout.Ranges.{Each}
+use Rattle.session.specs.Builder.{Keyboard, layoutKey, plainKey, codeAsKey, forcedKey, undead, fromMessage}
+use Rattle.session.specs.InBlock.{FitsIn, infoIn, InfoIn}
 use Rattle.session.specs.declared.PartialKeyEventInfo.{PartialKeyEventInfo}
-use Rattle.session.specs.declared.TextKey.{TextKey}
-use Rattle.event.specs.Bare.{bareKey}
+use Rattle.session.proofs.Ranges.{KeyFits}
+use Rattle.session.proofs.Fits.{forced-fits}
 use Rattle.event.specs.Written.{keyboardAt}
+
+-- a named key, which has no text in the block
+abbrev name-alone : ℕ → LayoutKey
+name-alone n = record { key = Named n; start = 0; len = 0 }
 
 module _ (block state : List ℕ) (vkey : ℕ) (l : KeyLParam) where
   abbrev board : Keyboard
   board = keyboardAt state block
-
-  -- ---- from_message
 
   -- the scan code of a message, the location and the forced key by it
   abbrev pub Known : ℕ → KeyLocation → ℕ → Type 0
@@ -53,19 +53,19 @@ module _ (block state : List ℕ) (vkey : ℕ) (l : KeyLParam) where
       let code-as = c ∙ ap keyCodeOf (same .1) in
       (s, p ∙ ap (locationOf (mapsOf block)) (same .0), sym (f ∙ (λ i. codeAsKey (control i) (code-as i))))
 
-  abbrev pub Answers : PartialKeyEventInfo → Type 0
-  Answers r = (asInfo r ≡ fromMessage board vkey l) × InfoLens r
+  abbrev Answers : PartialKeyEventInfo → Type 0
+  Answers r = (infoIn block r ≡ fromMessage board vkey l) × InfoIn block r
 
   module _ {scancode : ℕ} {location : KeyLocation} (forced : ℕ) (w : Known scancode location forced) where
-    abbrev made : TextKey → TextKey → PartialKeyEventInfo
+    abbrev made : LayoutKey → LayoutKey → PartialKeyEventInfo
     made k n =
         record { scancode = scancode; «is_repeat» = l .«is_repeat»; location = location; «logical_key» = k; «key_without_modifiers» = n }
 
     answer :
-        (k n : TextKey) → asKey k ≡ orElse (forcedKey board scancode) (layoutKey board vkey scancode) →
-        asKey n ≡ orElse (forcedKey board scancode) (undead (plainKey board vkey scancode)) →
-        k .text .len ≤ KEY-TEXT-MOST → n .text .len ≤ KEY-TEXT-MOST → Answers (made k n)
-    unfolding asInfo fromMessage
+        (k n : LayoutKey) → keyIn block k ≡ orElse (forcedKey board scancode) (layoutKey board vkey scancode) →
+        undead (keyIn block n) ≡ orElse (forcedKey board scancode) (undead (plainKey board vkey scancode)) →
+        FitsIn block k → FitsIn block n → Answers (made k n)
+    unfolding infoIn fromMessage
     answer k n a b t u =
         let s = w .0 in
         let location-as = w .1 ∙ ap (locationOf (mapsOf block)) s in
@@ -83,48 +83,19 @@ module _ (block state : List ℕ) (vkey : ℕ) (l : KeyLParam) where
     not-forced h = w .2 ∙ ap (λ (b : Bool). pick b none (some (named forced))) (eq-eqb forced 0 h)
 
     -- Control is on, and the code is NumLock or Pause
-    pub by-force : (forced ≡ 0 → ⊥) → (k : TextKey) → k ≡ bareKey (Named forced) → Answers (made k k)
-    unfolding asKey asBytes bareKey full
-    by-force h k e =
-        let v : (d : FullKey) → asKey k ≡ orElse (forcedKey board scancode) d =
-        λ d. ap asKey e ∙ sym (ap (λ (o : Option FullKey). orElse o d) (is-forced h)) in
-        let t : k .text .len ≤ KEY-TEXT-MOST = omega (arith, ap (λ (x : TextKey). x .text .len) e) in
-        answer k k (v (layoutKey board vkey scancode)) (v (undead (plainKey board vkey scancode))) t t
+    pub by-force : (forced ≡ 0 → ⊥) → Answers (made (name-alone forced) (name-alone forced))
+    unfolding full undead
+    by-force h =
+        let v : (d : FullKey) → named forced ≡ orElse (forcedKey board scancode) d =
+        λ d. sym (ap (λ (o : Option FullKey). orElse o d) (is-forced h)) in
+        let f : KeyFits (named forced) = subst (Each KeyFits) (is-forced h) (forced-fits board scancode) in
+        answer (name-alone forced) (name-alone forced) (v (layoutKey board vkey scancode)) (v (undead (plainKey board vkey scancode))) f f
 
     -- the layout is asked, once as it is and once without modifiers
     pub by-layout :
-        forced ≡ 0 → (k u n : TextKey) → (asKey k ≡ layoutKey board vkey scancode) × (k .text .len ≤ KEY-TEXT-MOST) →
-        asKey u ≡ plainKey board vkey scancode → (asKey n ≡ undead (asKey u)) × (n .text .len ≤ KEY-TEXT-MOST) → Answers (made k n)
-    by-layout h k u n a b d =
+        forced ≡ 0 → (k n : LayoutKey) → (keyIn block k ≡ layoutKey board vkey scancode) × FitsIn block k →
+        (keyIn block n ≡ plainKey board vkey scancode) × FitsIn block n → Answers (made k n)
+    by-layout h k n a b =
         let v : (x : FullKey) → x ≡ orElse (forcedKey board scancode) x =
         λ x. sym (ap (λ (o : Option FullKey). orElse o x) (not-forced h)) in
-        answer k n (a .0 ∙ v (layoutKey board vkey scancode)) (d .0 ∙ ap undead b ∙ v (undead (plainKey board vkey scancode))) (a .1) (d .1)
-
-  -- ---- press
-
-  -- a character is one whatever its text
-  with-text : (k : Key) (t : List ℕ) → isCharacter (full k []) ≡ isCharacter (full k t)
-  unfolding isCharacter full
-  with-text (Named n) t = refl
-  with-text Character t = refl
-  with-text (Unidentified c) t = refl
-  with-text Dead t = refl
-  with-text (DeadChar c) t = refl
-
-  character-in :
-      (info : PartialKeyEventInfo) → Answers info →
-      isCharacter (full (info .«logical_key» .key) []) ≡ isCharacter (fromMessage board vkey l .logicalKey)
-  unfolding asInfo asKey
-  character-in info a =
-      with-text (info .«logical_key» .key) (asBytes (info .«logical_key» .text)) ∙ ap (λ (n : Info). isCharacter (n .logicalKey)) (a .0)
-
-  pub held-press :
-      {info : PartialKeyEventInfo} {mods : WindowsModifiers} {mark on : Bool} {key : Key} (units : List ℕ) → Answers info →
-      mods ≡ activeModifiers state → mark ≡ (isCharacter (full key []) && not on) →
-      (key ≡ info .«logical_key» .key) × (on ≡ mods .control) →
-      asHeld (record { info = info; vkey = vkey; mark = mark; units = units; len = 0 }) ≡ heldOf board vkey l
-  unfolding asHeld heldOf markOf
-  held-press {info} units a m e same =
-      let b = ap (λ (x : Key). isCharacter (full x [])) (same .0) ∙ character-in info a in
-      let control = same .1 ∙ ap (λ (x : WindowsModifiers). x .control) m in
-      let q = e ∙ (λ i. b i && not (control i)) in λ i. record { info = a .0 i; vkey = vkey; mark = q i; units = [] }
+        answer k n (a .0 ∙ v (layoutKey board vkey scancode)) (ap undead (b .0) ∙ v (undead (plainKey board vkey scancode))) (a .1) (b .1)

@@ -2,18 +2,21 @@
 -- Assumes nothing.
 use mathlib.Core.Path.{_≡_, refl, sym, ap, _∙_}
 use mathlib.Core.Bool.{Bool, true, false, not, _&&_}
-use mathlib.Core.List.{List}
+use mathlib.Core.List.{List, []}
 use mathlib.Core.Option.{Option, some, none}
 use Prim.Native.Nat.{ℕ}
 use Rattle.segmentation.specs.Table.{Table}
+use Rattle.keys.specs.Text.{bareOf}
+use Rattle.keys.proofs.Full.{bare-full}
+use Rattle.lookup.specs.Layout.{partOf}
 use Rattle.lookup.specs.declared.keyboard.KeyLParam.{KeyLParam}
 use Rattle.session.specs.Event.{Event, Info, Held}
 use Rattle.session.specs.Given.{Message}
 use Rattle.session.specs.Session.{Wait, press, release, character, Session, unitsWithin}
 use Rattle.session.specs.Area.{encode, decode, encodeAnswer}
-use Rattle.session.specs.Builder.{Keyboard, fromMessage, heldOf, pressEvent, releaseEvent, charEvent, fake}
-use Rattle.session.specs.Types.{asInfo, asHeld}
-use Rattle.session.specs.declared.HeldPress.{HeldPress}
+use Rattle.session.specs.Builder.{Keyboard, fromMessage, markOf, heldOf, pressEvent, releaseEvent, charEvent, fake}
+use Rattle.session.specs.InBlock.{infoIn}
+use Rattle.session.specs.declared.PartialKeyEventInfo.{PartialKeyEventInfo}
 use Rattle.session.specs.Calls.{Effect, holds, moreComing, finishEvent, finishHeld, findWait, isFirst, resolved}
 use Rattle.session.specs.Questions.{isHeld}
 use Rattle.session.proofs.Laws.{finish-found, event-press, event-release, event-none, event-char, held-press, held-release, held-none, held-char}
@@ -45,11 +48,24 @@ held-and-last (some g) false e = (refl, refl)
 held-and-last (some g) true e = let z : false ≡ true = e in (refl, sym z)
 held-and-last none m e = let z : false ≡ true = e in (z, (cc))
 
+-- a press as it is read from the layout, with no units yet
+abbrev pub pressOf : List ℕ → PartialKeyEventInfo → ℕ → Bool → Held
+pressOf block n vkey mark = record { info = infoIn block n; vkey = vkey; mark = mark; units = [] }
+
+-- the logical key alone, as the code has it
+pub key-of : (block : List ℕ) (n : PartialKeyEventInfo) → bareOf (infoIn block n .logicalKey) ≡ n .«logical_key» .key
+unfolding infoIn
+key-of block n = bare-full (n .«logical_key» .key) (partOf block (n .«logical_key»))
+
 -- a press made by the layout and the key state a and d, told of those of the finish, which they are
 pub told-held :
-    (block state : List ℕ) {a d : List ℕ} (vkey : ℕ) (l : KeyLParam) {h : Held} → h ≡ heldOf (keyboardAt d a) vkey l → (a ≡ block) × (d ≡ state) →
-    h ≡ heldOf (keyboardAt state block) vkey l
-told-held block state vkey l m e = rw (← e .0, ← e .1) m
+    (block state : List ℕ) {a d : List ℕ} (vkey : ℕ) (l : KeyLParam) (n : PartialKeyEventInfo) {mark : Bool} → infoIn a n ≡ fromMessage (keyboardAt d a) vkey l →
+    mark ≡ markOf (keyboardAt d a) (infoIn a n) → (a ≡ block) × (d ≡ state) → pressOf block n vkey mark ≡ heldOf (keyboardAt state block) vkey l
+unfolding heldOf
+told-held block state vkey l n {mark} i m e =
+    let f : infoIn block n ≡ fromMessage (keyboardAt state block) vkey l = rw (← e .0, ← e .1) i in
+    let g : mark ≡ markOf (keyboardAt state block) (infoIn block n) = rw (← e .0, ← e .1) m in
+    rw (g, f) refl
 
 -- a new press has no units
 pub new-within : (b : Keyboard) (vkey : ℕ) (l : KeyLParam) → unitsWithin (some (heldOf b vkey l)) ≡ true
@@ -60,10 +76,6 @@ new-within b vkey l = refl
 press-info : (b : Keyboard) (vkey : ℕ) (l : KeyLParam) → heldOf b vkey l .info ≡ fromMessage b vkey l
 unfolding heldOf
 press-info b vkey l = refl
-
-pub info-of : (h : HeldPress) → asInfo (h .info) ≡ asHeld h .info
-unfolding asHeld
-info-of h = refl
 
 -- what comes of the open message of a token: o its event, if it gives one, and h the press that is held after it
 pub record Way (s : Session) (b : Keyboard) (r : Table) (t : ℕ) (p : Option Message) (o : Option Event) (h : Option Held) : Type 0 where

@@ -13,13 +13,15 @@ use lib.Seq.{drop-drop}
 use Rattle.area.specs.Pick.{pick}
 use Rattle.area.proofs.Splice.{part-rest}
 use Rattle.segmentation.specs.Table.{Table}
+use Rattle.keys.specs.Text.{bareOf}
+use Rattle.keys.specs.declared.Key.{Key}
 use Rattle.lookup.specs.Block.{blockOk}
 use Rattle.lookup.specs.declared.keyboard.KeyLParam.{KeyLParam}
-use Rattle.session.specs.Limits.{AREA, ENTRIES-MOST, ENTRIES-AT, ENTRY-SIZE, INFO-SIZE}
+use Rattle.session.specs.Limits.{AREA, ENTRIES-MOST, ENTRIES-AT, ENTRY-SIZE, KEY-TEXT-MOST}
 use Rattle.session.specs.Event.{Info}
 use Rattle.session.specs.Given.{Message}
 use Rattle.session.specs.Session.{press, release, character, Entry, tokenOf, infoFits, waitFits}
-use Rattle.session.specs.Area.{info, pressed, entry, decode, encodeAnswer}
+use Rattle.session.specs.Area.{fullKey, info, pressed, entry, decode, encodeAnswer}
 use Rattle.session.specs.Builder.{Keyboard}
 use Rattle.session.specs.Calls.{waitIn, findWait}
 use Rattle.session.proofs.Laws.{finish-lost}
@@ -28,11 +30,13 @@ use Rattle.session.proofs.Kept.{find-fits, WaitIn}
 use Rattle.record.specs.Pending.{pendingOf}
 use Rattle.record.specs.declared.read.Pending.{Pending}
 use Rattle.record.specs.declared.read.Pending.the-variants as case
+use Rattle.record.proofs.Records.{info-got}
 use Rattle.record.proofs.read.Walk.{entry-at, entry-ok-at}
 use Rattle.record.proofs.read.Places.{press-at, press-ok, release-at, release-ok, character-at, complete-at}
 use Rattle.queue.specs.Changed.{Does}
 use Rattle.queue.specs.Place.{placeOfToken, StandsAt}
 use Rattle.queue.specs.Room.{IsArea}
+use Rattle.queue.specs.Stands.{infoPlace}
 use Rattle.queue.proofs.Areas.{count-most, own-area}
 use Rattle.queue.proofs.Sessions.{entries-fit}
 use Rattle.message.specs.Resolves.{EntryAt, finishedBy}
@@ -160,25 +164,36 @@ module _ (x y block : List ℕ) (t place : ℕ) (a : EntryAt case.Press x y bloc
       let f : (ltb vkey 65536 && ltb (l .scancode) 256) ≡ true = rw e at (waits-fit case.Press x y block t place a b) in
       let g = and-true (ltb vkey 65536) (ltb (l .scancode) 256) f in (ltb-true vkey 65536 (g .0), ltb-true (l .scancode) 256 (g .1))
 
--- ---- an open release, the same
+-- ---- an open release, as it is kept in its entry
+
+-- what is kept of the release at a place
+abbrev pub infoAt : List ℕ → ℕ → Info
+infoAt x place = info .get (drop (infoPlace place) x)
 
 module _ (x y block : List ℕ) (t place : ℕ) (a : EntryAt case.Release x y block t place) (b : (i : ℕ) → getD x i 0 < 256) where
-  pub release-reads :
-      {k : ℕ} → k ≤ length x → k ≡ ENTRIES-AT + ENTRY-SIZE * place + 5 →
-      (INFO-SIZE ≤ length (take (length x - k) (drop k x))) × (info .ok (take (length x - k) (drop k x)) ≡ true)
-  release-reads _ e =
-      let l = drop (ENTRIES-AT + ENTRY-SIZE * place) x in
-      rw (part case.Release x y block t place a 5 e)
-      (long case.Release x y block t place a 5 INFO-SIZE (omega arith) b, release-ok l (a .case) (in-order case.Release x y block t place a))
+  kept-part : drop (infoPlace place) x ≡ drop 5 (drop (ENTRIES-AT + ENTRY-SIZE * place) x)
+  kept-part = sym (drop-drop 5 (ENTRIES-AT + ENTRY-SIZE * place) x)
 
-  pub release-waits :
-      (n : Info) {k : ℕ} → n ≡ info .get (take (length x - k) (drop k x)) → k ≡ ENTRIES-AT + ENTRY-SIZE * place + 5 →
-      findWait t (decode x .entries) ≡ some (release n)
-  release-waits n g e =
-      let h = drop (ENTRIES-AT + ENTRY-SIZE * place) x in
+  pub release-passes : info .ok (drop (infoPlace place) x) ≡ true
+  release-passes = rw kept-part (release-ok (drop (ENTRIES-AT + ENTRY-SIZE * place) x) (a .case) (in-order case.Release x y block t place a))
+
+  pub release-waits : findWait t (decode x .entries) ≡ some (release (infoAt x place))
+  release-waits =
       waits-here case.Release x y block t place a
-      ∙ ap waitIn (release-at h (a .case))
-      ∙ ap (λ (q : Info). some (release q)) (sym (g ∙ ap (info .get) (part case.Release x y block t place a 5 e)))
+      ∙ ap waitIn (release-at (drop (ENTRIES-AT + ENTRY-SIZE * place) x) (a .case))
+      ∙ ap (λ (l : List ℕ). some (release (info .get l))) (sym kept-part)
+
+  -- its logical key is read from byte k of the area on
+  pub key-reads : {k : ℕ} → k ≤ length x → k ≡ infoPlace place + 4 → 7 ≤ length (take (length x - k) (drop k x))
+  key-reads {k} _ e = rw (part-rest k x) (omega (arith, few case.Release x y block t place a b, a .stands .area .size, length-drop k x))
+
+  pub key-read :
+      {k : ℕ} {r : Key} → r ≡ bareOf (fullKey KEY-TEXT-MOST .get (take (length x - k) (drop k x))) → k ≡ infoPlace place + 4 →
+      bareOf (infoAt x place .logicalKey) ≡ r
+  key-read {k} g e =
+      let l = drop (infoPlace place) x in
+      let q : take (length x - k) (drop k x) ≡ drop 4 l = part-rest k x ∙ rw e (sym (drop-drop 4 (infoPlace place) x)) in
+      ap (λ (n : Info). bareOf (n .logicalKey)) (info-got l) ∙ sym (g ∙ ap (λ (m : List ℕ). bareOf (fullKey KEY-TEXT-MOST .get m)) q)
 
   pub release-range : (n : Info) → findWait t (decode x .entries) ≡ some (release n) → infoFits n ≡ true
   unfolding waitFits

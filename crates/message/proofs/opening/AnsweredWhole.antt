@@ -1,15 +1,14 @@
 -- What each message that is answered whole gives, from what the functions below left.
 -- Assumes nothing.
 use mathlib.Core.Path.{_≡_, refl, sym, _∙_}
-use mathlib.Core.Bool.{true}
 use mathlib.Core.List.{List, [], _∷_, _++_}
 use mathlib.Core.Option.{Option, some, none}
-use Prim.Native.Nat.{ℕ, _+_, _≤_, _<_}
+use Prim.Native.Nat.{ℕ, _+_, _<_}
 use native.Mathlib.Omega.{arith}
 use lib.ListN.{getD, length}
-use Rattle.session.specs.Limits.{ENTRIES-MOST, TOKENS-MOST, UNITS-MOST}
+use Rattle.session.specs.Limits.{ENTRIES-MOST, TOKENS-MOST}
 use Rattle.session.specs.Event.{Event, Held}
-use Rattle.session.specs.Session.{Entry, Session, eventFits, heldFits}
+use Rattle.session.specs.Session.{Entry, Session}
 use Rattle.session.specs.Area.{encode, decode, encodeAnswer}
 use Rattle.session.specs.Builder.{deadCharEvent}
 use Rattle.session.specs.Calls.{numbered, behind, deadCharAnswered}
@@ -17,7 +16,6 @@ use Rattle.session.specs.Focus.{focusEvents}
 use Rattle.session.specs.Answers.{openSaid}
 use Rattle.session.specs.declared.ElementState.{ElementState}
 use Rattle.session.specs.declared.OpenAnswer.the-variants.{OpenedNone}
-use Rattle.session.proofs.Fits.{dead-fits}
 use Rattle.queue.specs.Changed.{holding, withEvent}
 use Rattle.queue.specs.Room.{IsArea, HasRoom}
 use Rattle.queue.proofs.Areas.{AreaOf, own-area, room-of}
@@ -88,6 +86,3 @@ module _ (x : List ℕ) (b : (i : ℕ) → getD x i 0 < 256) (r : IsArea x) (n :
         (n ≡ 0 → ⊥) → {z w : List ℕ} → z ≡ encode (withEvent (decode y) v) → w ≡ encodeAnswer [] →
         Gives (deadCharAnswered (decode x) (decode x .held)) OpenedNone z w
     dead-waits l q w = rw dead-behind (waits (decode x) (v ∷ []) none (decode x .entries) (λ i. l (c ∙ i)) (one-more q) w)
-
-pub completed-fits : (h : Held) (v : Event) → v ≡ deadCharEvent h → (length (h .units) ≤ UNITS-MOST) × (heldFits (some h) ≡ true) → eventFits v ≡ true
-completed-fits h v u f = rw u (dead-fits h (f .1) (f .0))

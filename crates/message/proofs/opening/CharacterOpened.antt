@@ -6,7 +6,7 @@ use mathlib.Core.List.{List, []}
 use mathlib.Core.Option.{Option, some, none}
 use Prim.Native.Nat.{ℕ, _+_, _≤_, _<_}
 use native.Mathlib.Omega.{arith}
-use lib.ListN.{getD, length, length-append, length-take}
+use lib.ListN.{getD, length, length-append}
 use borrow.Author.Tests.{le-leb}
 use Rattle.text.specs.Message.{charUnits}
 use Rattle.session.specs.Limits.{ENTRIES-MOST, TOKENS-MOST, UNITS-MOST}
@@ -16,9 +16,7 @@ use Rattle.session.specs.Session.{character, Session, heldFits, unitsWithin}
 use Rattle.session.specs.Area.{encode, decode, encodeAnswer}
 use Rattle.session.specs.Builder.{withUnits}
 use Rattle.session.specs.Calls.{nothingDone, opening, charOpened}
-use Rattle.session.specs.Types.{asHeld}
 use Rattle.session.specs.Answers.{noToken, openSaid}
-use Rattle.session.specs.declared.HeldPress.{HeldPress}
 use Rattle.session.specs.declared.OpenAnswer.{OpenAnswer}
 use Rattle.session.specs.declared.OpenAnswer.the-variants.{Opened}
 use Rattle.session.specs.declared.PendingMessageToken.{PendingMessageToken}
@@ -29,12 +27,8 @@ use Rattle.queue.proofs.Areas.{AreaOf, own-area, held-area, room-of}
 use Rattle.message.specs.Gives.{Gives}
 use Rattle.message.proofs.opening.MessageOpened.{opened}
 
-pub units-count : (h : HeldPress) → length (h .units) ≡ UNITS-MOST → h .len ≤ UNITS-MOST → length (asHeld h .units) ≡ h .len
-unfolding asHeld
-units-count h l m = length-take (h .len) (h .units) ∙ omega arith
-
 module _ (x : List ℕ) (b : (i : ℕ) → getD x i 0 < 256) (r : IsArea x) (wparam : ℕ) (h g : Held) (e : decode x .held ≡ some h) (u : g ≡ withUnits h (charUnits wparam)) where
-  pub more-fits : heldFits (some h) ≡ true → heldFits (some g) ≡ true
+  more-fits : heldFits (some h) ≡ true → heldFits (some g) ≡ true
   more-fits f = rw u (units-fit h wparam f)
 
   more-short : length (h .units) + length (charUnits wparam) ≤ UNITS-MOST → unitsWithin (some g) ≡ true

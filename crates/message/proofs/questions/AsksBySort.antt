@@ -7,13 +7,12 @@ use mathlib.Core.Option.{Option, some, none}
 use Prim.Native.Nat.{ℕ, _+_, _≤_}
 use native.Mathlib.Omega.{arith}
 use lib.Dec.{ltb}
-use lib.ListN.{length, take, length-append}
-use lib.Seq.{length-take-le}
+use lib.ListN.{length, drop, length-append}
 use Rattle.text.specs.Message.{charUnits}
 use Rattle.text.specs.Stored.{twoUnits}
 use Rattle.text.specs.declared.CharUnits.{CharUnits}
 use Rattle.text.proofs.Message.{char-units}
-use Rattle.session.specs.Limits.{OPEN-MOST, ENTRIES-MOST, UNITS-MOST, HELD-SIZE}
+use Rattle.session.specs.Limits.{OPEN-MOST, ENTRIES-MOST, UNITS-MOST, HELD-AT}
 use Rattle.session.specs.Given.{Message}
 use Rattle.session.specs.Event.{Held}
 use Rattle.session.specs.Focus.{focusEvents}
@@ -22,12 +21,11 @@ use Rattle.session.specs.Builder.{Keyboard, withUnits}
 use Rattle.session.specs.Area.{held, decode}
 use Rattle.session.specs.Calls.{Sort, char}
 use Rattle.session.specs.Questions.{isHeld, opens, behindSome, newEntries, unitsAfter, question6}
-use Rattle.session.specs.Types.{asHeld}
 use Rattle.session.specs.declared.ElementState.{ElementState}
-use Rattle.session.specs.declared.HeldPress.{HeldPress}
 use Rattle.session.proofs.Fits.{focus-most}
+use Rattle.queue.specs.Completing.{heldIn}
 use Rattle.queue.specs.Room.{IsArea}
-use Rattle.queue.proofs.HeldPress.{fromHeld, can-read, is-read}
+use Rattle.queue.proofs.HeldPress.{held-there, held-passes}
 use Rattle.message.specs.Sorts.{asSort}
 use Rattle.message.specs.declared.sorts.MessageSort.{MessageSort}
 use Rattle.message.specs.declared.sorts.MessageSort.the-variants as m
@@ -135,12 +133,9 @@ unheld none g k e = refl
 unheld (some h) g k e = let z : _≡_ {A = ℕ} 0 1 = cc in omega arith
 
 -- .. and with one
-with-char :
-    (h : HeldPress) (g : Message) (a : CharUnits) → a ≡ twoUnits (charUnits (g .wparam)) → h .len ≤ length (h .units) →
-    h .len + a .len ≡ unitsAfter (some (asHeld h)) g char
-unfolding unitsAfter withUnits asHeld twoUnits
-with-char h g a e l =
-    rw (length-append (take (h .len) (h .units)) (charUnits (g .wparam)), length-take-le (h .len) (h .units) l, e)
+with-char : (h : Held) (g : Message) (a : CharUnits) → a ≡ twoUnits (charUnits (g .wparam)) → length (h .units) + a .len ≡ unitsAfter (some h) g char
+unfolding unitsAfter withUnits twoUnits
+with-char h g a e = rw (length-append (h .units) (charUnits (g .wparam)), e)
 
 -- the area's header says whether a press is held
 module _ (x : List ℕ) {p : Bool} (ep : p ≡ isHeld (decode x .held)) where
@@ -148,14 +143,14 @@ module _ (x : List ℕ) {p : Bool} (ep : p ≡ isHeld (decode x .held)) where
   char-unheld h g = unheld (decode x .held) g char (sym ep ∙ h)
 
   module _ (r : IsArea x) (is : p ≡ true) where
-    pub press-there : (HELD-SIZE ≤ length (fromHeld x)) × (held .ok (fromHeld x) ≡ true)
-    press-there = can-read x r (sym ep ∙ is)
+    pub press-there : held .ok (drop HELD-AT x) ≡ true
+    press-there = held-passes x r (sym ep ∙ is)
 
     pub char-units-held :
-        (h : HeldPress) (g : Message) (a : CharUnits) → asHeld h ≡ held .get (fromHeld x) → h .len ≤ UNITS-MOST → length (h .units) ≡ UNITS-MOST →
-        a ≡ twoUnits (charUnits (g .wparam)) → h .len + a .len ≡ unitsAfter (decode x .held) g char
-    char-units-held h g a eh most whole ea =
-        with-char h g a ea (omega arith) ∙ ap (λ (o : Option Held). unitsAfter o g char) (sym (is-read x r (sym ep ∙ is) (asHeld h) eh))
+        (n : ℕ) (g : Message) (a : CharUnits) → n ≡ length (heldIn x .units) → a ≡ twoUnits (charUnits (g .wparam)) →
+        n + a .len ≡ unitsAfter (decode x .held) g char
+    char-units-held n g a en ea =
+        ap (λ (m : ℕ). m + a .len) en ∙ with-char (heldIn x) g a ea ∙ ap (λ (o : Option Held). unitsAfter o g char) (sym (held-there x r (sym ep ∙ is)))
 
 pub units-fit : (n w : ℕ) (a : CharUnits) → n ≤ UNITS-MOST → a ≡ twoUnits (charUnits w) → n + a .len ≤ UNITS-MOST + 2
 unfolding twoUnits

@@ -5,12 +5,12 @@ use mathlib.Core.List.{List, [], _∷_, _++_, append-assoc}
 use Prim.Native.Nat.{ℕ, zero, suc, _+_, _*_, _≤_, _<_}
 use native.Mathlib.Omega.{arith}
 use lib.ListN.{getD, length, take, drop, length-append, take-append-drop}
-use lib.Seq.{take-at, drop-at, length-take-le, getD-drop}
+use lib.Seq.{length-take-le, getD-drop}
 use borrow.Author.Tests.{eq-eqb, ne-eqb}
 use Rattle.area.specs.Bytes.{le, num}
 use Rattle.area.specs.Splice.{splice}
 use Rattle.area.proofs.Bytes.{length-le}
-use Rattle.area.proofs.Splice.{splice-eq, merge, length-splice}
+use Rattle.area.proofs.Splice.{merge, length-splice}
 use Rattle.session.specs.Limits.{AREA, ANSWER-EVENTS-AT, ANSWER-EVENT-SIZE, ENTRIES-AT, ENTRY-SIZE}
 use Rattle.session.specs.Event.{Event}
 use Rattle.session.specs.Session.{Entry, complete, entryFits}
@@ -24,6 +24,7 @@ use Rattle.record.proofs.read.Walk.{entry-at, read-as}
 use Rattle.queue.specs.Changed.{Written}
 use Rattle.queue.specs.Room.{IsArea}
 use Rattle.queue.proofs.Areas.{kept}
+use Rattle.queue.proofs.Standing.{spliced}
 
 -- ---- parts of a list
 
@@ -37,12 +38,6 @@ all-drop F zero l h = h
 all-drop F (suc n) [] h = tt
 all-drop F (suc n) (a ∷ l) h = all-drop F n l (h .1)
 
--- bytes that were written stand there
-spliced : (at : ℕ) (s y : List ℕ) → at + length s ≤ length y → take (length s) (drop at (splice at s y)) ≡ s
-spliced at s y h =
-    let r = drop (at + length s) y in
-    rw (splice-eq s y at h, append-assoc, drop-at (take at y) (s ++ r) at (length-take-le at y (omega arith))) (take-at s r (length s) refl)
-
 -- the event of a complete entry that is written stands behind its token and its mark
 event-within :
     (at t : ℕ) (e : Event) (x : List ℕ) → length (event .put e) ≡ ANSWER-EVENT-SIZE → at + ENTRY-SIZE ≤ length x → splice at (entry .put (complete t e)) x ≡ x →
@@ -54,7 +49,7 @@ event-within at t e x l h p =
     let y = splice at a x in
     let m : length a ≡ 3 = length-append (le 2 t) (1 ∷ []) ∙ omega (arith, length-le 2 t) in
     let q : splice (at + 3) v y ≡ x = merge at 3 a v x m ∙ ap (λ (s : List ℕ). splice at s x) (append-assoc (le 2 t) (1 ∷ []) v) ∙ p in
-    let s : take (length v) (drop (at + 3) (splice (at + 3) v y)) ≡ v = spliced (at + 3) v y (omega (arith, length-splice at a x)) in
+    let s : take (length v) (drop (at + 3) (splice (at + 3) v y)) ≡ v = spliced (at + 3) (length v) v y refl (omega (arith, length-splice at a x)) in
     rw (q, l) at s
 
 -- the entry that is read at place i

@@ -76,19 +76,20 @@ module _ (x : List ℕ) (b : (i : ℕ) → getD x i 0 < 256) (t place : ℕ) (a 
 
   -- the first entry: its event before those of the entries behind it
   pub first-completed :
-      (v : Event) → eventFits v ≡ true → (y : List ℕ) → length y ≡ AREA → place ≡ 0 → {k j m n : ℕ} {y₁ y₂ z w : List ℕ} →
-      y₁ ≡ splice k (event .put v) y → Written j (drain (drop m (decode x .entries))) y₁ y₂ n →
-      z ≡ zeroFrom (ANSWER-EVENTS-AT + ANSWER-EVENT-SIZE * n) (splice 0 (le 2 n) y₂) → w ≡ encode (emptied (decode x)) →
-      k ≡ ANSWER-EVENTS-AT → j ≡ 1 → m ≡ 1 → Does (resolvedBy (decode x) t (some v)) w z
+      (v : Event) → eventFits v ≡ true → (y : List ℕ) → length y ≡ AREA → place ≡ 0 → {j m n : ℕ} {x₁ y₁ y₂ z w : List ℕ} →
+      (x₁ ≡ x) × (y₁ ≡ splice ANSWER-EVENTS-AT (event .put v) y) → Written j (drain (drop m (decode x₁ .entries))) y₁ y₂ n →
+      z ≡ zeroFrom (ANSWER-EVENTS-AT + ANSWER-EVENT-SIZE * n) (splice 0 (le 2 n) y₂) → w ≡ encode (emptied (decode x₁)) →
+      j ≡ 1 → m ≡ 1 → Does (resolvedBy (decode x) t (some v)) w z
   unfolding putMany allFit inPlace drain
-  first-completed v f y l p {k} {j} {m} {n} {y₁} {y₂} q₁ q₂ q₃ q₄ u₁ u₂ u₃ =
+  first-completed v f y l p {j} {m} {n} {x₁} {y₁} {y₂} q₁ q₂ q₃ q₄ u₂ u₃ =
       let s = decode x in
+      let e = q₁ .0 in
       let d = drain (drop 1 (s .entries)) in
       let w = first-leaves s t (some v) (s .entries) refl (sym (a .found) ∙ p) some-entry in
       let i : length (event .put v) ≡ ANSWER-EVENT-SIZE = event-sound .sized v f ∙ event-width in
-      let g : Handing (v ∷ d) y y₂ = chain 2 ANSWER-EVENT-SIZE (event .put v) (putMany event d) y i (q₁ ∙ rw u₁ refl) (q₂ .bytes ∙ rw (u₂, u₃) refl) in
-      let c : n ≡ suc (length d) = q₂ .count ∙ rw (u₂, u₃) (omega arith) in
-      record { session = q₄ ∙ sym (ap encode (w .0)); answers = ended (v ∷ d) y (rw f rest-fit) (omega (arith, rest-most)) l g q₃ c ∙ sym (ap encodeAnswer (w .1)) }
+      let g : Handing (v ∷ d) y y₂ = chain 2 ANSWER-EVENT-SIZE (event .put v) (putMany event d) y i (q₁ .1) (q₂ .bytes ∙ rw (u₂, u₃, e) refl) in
+      let c : n ≡ suc (length d) = q₂ .count ∙ rw (u₂, u₃, e) (omega arith) in
+      record { session = q₄ ∙ ap (λ (l : List ℕ). encode (emptied (decode l))) e ∙ sym (ap encode (w .0)); answers = ended (v ∷ d) y (rw f rest-fit) (omega (arith, rest-most)) l g q₃ c ∙ sym (ap encodeAnswer (w .1)) }
 
   -- the first entry: the events of the entries behind it
   pub first-removed :

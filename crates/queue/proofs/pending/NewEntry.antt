@@ -13,11 +13,13 @@ use Rattle.lookup.specs.declared.keyboard.KeyLParam.{KeyLParam}
 use Rattle.session.specs.Limits.{ENTRIES-MOST, TOKENS-MOST, COUNT-AT, ENTRIES-AT, ENTRY-SIZE}
 use Rattle.session.specs.Event.{Event, Info}
 use Rattle.session.specs.Session.{Wait, press, release, character, Entry, waiting, complete, Session, tokenOf, waitFits, entryFits, eventFits, infoFits}
-use Rattle.session.specs.Area.{entry, encode, decode}
+use Rattle.session.specs.Area.{event, entry, encode, decode}
 use Rattle.session.specs.Calls.{opening}
 use Rattle.session.proofs.Writes.{Stored, handed-put, entry-put, put-stored}
+use Rattle.record.proofs.write.Entries.{completed-headed}
 use Rattle.queue.specs.Changed.{withEvent}
 use Rattle.queue.specs.Room.{HasRoom}
+use Rattle.queue.specs.Stands.{eventPlace}
 use Rattle.queue.proofs.Areas.{kept}
 
 pub counted :
@@ -60,13 +62,16 @@ module _ (x : List ℕ) (b : (i : ℕ) → getD x i 0 < 256) (r : HasRoom x) whe
       let s : decode x .handed + 1 ≡ suc (decode x .handed) = omega arith in
       (m ∙ i, added x b r (waiting t w) (j ∙ i) g p q u v i ∙ rw (j, i, s) refl)
 
+  -- a completed one, whose event stands behind its token and its mark already
   pub completed :
-      (e : Event) → eventFits e ≡ true → {t k n h : ℕ} {y z : List ℕ} →
-      y ≡ splice k (entry .put (complete t e)) x → z ≡ splice 0 (le 2 (h + 1)) (splice COUNT-AT (le 2 (n + 1)) y) →
+      (e : Event) → eventFits e ≡ true → {t k n h : ℕ} {u y z : List ℕ} → u ≡ splice (eventPlace n) (event .put e) x →
+      y ≡ splice k (le 2 t ++ (1 ∷ [])) u → z ≡ splice 0 (le 2 (h + 1)) (splice COUNT-AT (le 2 (n + 1)) y) →
       n ≡ length (decode x .entries) → h ≡ decode x .handed → k ≡ ENTRIES-AT + ENTRY-SIZE * n → t ≡ h →
       z ≡ encode (withEvent (decode x) e)
   unfolding entryFits
-  completed e g {t} p q v i u j = added x b r (complete t e) (j ∙ i) g p q u v i ∙ rw (j, i) refl
+  completed e g {t} {k} {n} p o q v i u j =
+      let y′ = completed-headed (ENTRIES-AT + ENTRY-SIZE * n) t e x p (o ∙ rw u refl) in
+      added x b r (complete t e) (j ∙ i) g y′ q refl v i ∙ rw (j, i) refl
 
 pub press-fits : (vkey : ℕ) (l : KeyLParam) → vkey < 65536 → l .scancode < 256 → waitFits (press vkey l) ≡ true
 unfolding waitFits

@@ -7,6 +7,7 @@ use mathlib.Core.Option.{some}
 use Prim.Native.Nat.{ℕ}
 use lib.Dec.{eqb}
 use lib.ListN.{drop, getD}
+use borrow.Author.Tests.{eqb-true}
 use Rattle.area.specs.Pick.{pick}
 use Rattle.area.specs.Bytes.{num}
 use Rattle.session.specs.Limits.{EVENT-SIZE, INFO-SIZE, WAIT-SIZE}
@@ -147,3 +148,6 @@ module _ (x : List ℕ) where
 
     pub held-ok : sessionOk x ≡ true → held .ok (drop 3 x) ≡ true
     held-ok o = and-eq-true-iff (eqb (getD x 2 0) 1) _ .0 (rw mark at (area-ok x o)) .1
+
+    pub held-marked : sessionOk x ≡ true → getD x 2 0 ≡ 1
+    held-marked o = eqb-true (getD x 2 0) 1 (and-eq-true-iff (eqb (getD x 2 0) 1) _ .0 (rw mark at (area-ok x o)) .0)

@@ -1,24 +1,41 @@
--- The bytes of an entry, part by part.
+-- The bytes of an entry, and of an open press in it, part by part.
 -- Assumes nothing.
 use mathlib.Core.Path.{_≡_, refl, sym, ap, _∙_}
+use mathlib.Core.Bool.{Bool}
 use mathlib.Core.List.{List, [], _∷_, _++_, append-assoc}
 use Prim.Native.Nat.{ℕ, suc, _+_, _-_, _≤_}
 use native.Mathlib.Omega.{arith}
 use lib.ListN.{length, replicate, length-append, length-replicate, replicate-append-replicate}
 use Rattle.area.specs.Bytes.{le}
 use Rattle.area.specs.Splice.{splice, padded}
-use Rattle.area.proofs.Splice.{padded-none}
+use Rattle.area.proofs.Bytes.{length-le}
+use Rattle.area.proofs.Splice.{padded-none, chain-down}
 use Rattle.lookup.specs.declared.keyboard.KeyLParam.{KeyLParam}
 use Rattle.session.specs.Limits.{ENTRY-SIZE, EVENT-SIZE, INFO-SIZE, WAIT-SIZE}
-use Rattle.session.specs.Codec.{number, nothing, pair, via, slot, either}
+use Rattle.session.specs.Codec.{byte, number, nothing, pair, checked, via, slot, either}
 use Rattle.session.specs.Event.{Event, Info}
 use Rattle.session.specs.Session.{press, release, character, waiting, complete}
-use Rattle.session.specs.Area.{pressed, event, info, wait, entry}
-use Rattle.session.specs.Types.{asEvent, asInfo, InfoLens}
-use Rattle.session.specs.declared.KeyEvent.{KeyEvent}
-use Rattle.session.specs.declared.PartialKeyEventInfo.{PartialKeyEventInfo}
-use Rattle.record.proofs.write.Parts.{meet, marked}
-use Rattle.record.proofs.write.Records.{info-length, pressed-length}
+use Rattle.session.specs.Area.{flag, pressed, event, info, wait, entry}
+use Rattle.record.proofs.Written.{meet, flag-length}
+
+-- ---- an open press
+
+pub pressed-written :
+    (v : ℕ) (l : KeyLParam) (at : ℕ) (x : List ℕ) {w n k₁ k₂ k₃ : ℕ} {b d : Bool} {y₁ y₂ y₃ y₄ : List ℕ} →
+    y₁ ≡ splice at (le 2 w) x → y₂ ≡ splice k₁ (n ∷ []) y₁ → y₃ ≡ splice k₂ (flag .put b) y₂ → y₄ ≡ splice k₃ (flag .put d) y₃ →
+    w ≡ v → k₁ ≡ at + 2 → k₂ ≡ at + 3 → k₃ ≡ at + 4 →
+    _≡_ {A = KeyLParam} (record { scancode = n; extended = b; «is_repeat» = d }) l → y₄ ≡ splice at (pressed .put (v, l)) x
+unfolding pressed via pair number byte
+pressed-written v l at x {w} {n} {k₁} {k₂} {k₃} {b} {d} {y₁} {y₂} p₁ p₂ p₃ p₄ e f₁ f₂ f₃ q =
+    meet at 2 k₁ (le 2 w) ((n ∷ []) ++ (flag .put b ++ flag .put d)) x (length-le 2 w) f₁ p₁
+    (meet k₁ 1 k₂ (n ∷ []) (flag .put b ++ flag .put d) y₁ refl (omega arith) p₂
+    (meet k₂ 1 k₃ (flag .put b) (flag .put d) y₂ (flag-length b) (omega arith) p₃ p₄))
+    ∙ ap (λ (o : KeyLParam). splice at (pressed .put (w, o)) x) q
+    ∙ ap (λ (u : ℕ). splice at (pressed .put (u, l)) x) e
+
+pub pressed-length : (v : ℕ) (l : KeyLParam) → length (pressed .put (v, l)) ≡ 5
+unfolding pressed via pair number byte flag checked le
+pressed-length v l = refl
 
 -- ---- zeros
 
@@ -33,6 +50,16 @@ more-zeros w m p h =
 padded-by : (w n : ℕ) (p : List ℕ) → length p ≡ n → padded w p ≡ p ++ replicate (w - n) 0
 unfolding padded
 padded-by w n p e = ap (λ (m : ℕ). p ++ replicate (w - m) 0) e
+
+-- ---- the token of an entry and its mark, before r
+
+pub marked :
+    (t at : ℕ) (x : List ℕ) (u a k₁ k₂ : ℕ) (r : List ℕ) {y₁ y₂ z : List ℕ} → y₁ ≡ splice at (le 2 u) x →
+    y₂ ≡ splice k₁ (a ∷ []) y₁ → z ≡ splice k₂ r y₂ → u ≡ t → k₁ ≡ at + 2 → k₂ ≡ at + 3 →
+    z ≡ splice at (le 2 t ++ (a ∷ r)) x
+marked t at x u a k₁ k₂ r {y₁} p₁ p₂ p e f₁ f₂ =
+    meet at 2 k₁ (le 2 u) (a ∷ r) x (length-le 2 u) f₁ p₁ (meet k₁ 1 k₂ (a ∷ []) r y₁ refl (omega arith) p₂ p)
+    ∙ ap (λ (n : ℕ). splice at (le 2 n ++ (a ∷ r)) x) e
 
 -- ---- an open entry: its token, two or three marks, what it holds, zeros
 
@@ -74,18 +101,18 @@ press-written t v l at x {u} {a} {b} {w} {k₁} {k₂} {k₃} {k₄} {m} {zs} {y
     ∙ rw (ea, eb, ew, em, ez) (sym (ap (λ (r : List ℕ). splice at r x) (press-put t v l)))
 
 pub release-written :
-    (t : ℕ) (n : PartialKeyEventInfo) (at : ℕ) (x : List ℕ) {u a b d k₁ k₂ k₃ k₄ k₅ : ℕ} {m : PartialKeyEventInfo}
-    {zs y₁ y₂ y₃ y₄ y₅ y₆ : List ℕ} → InfoLens n → y₁ ≡ splice at (le 2 u) x → y₂ ≡ splice k₁ (a ∷ []) y₁ →
-    y₃ ≡ splice k₂ (b ∷ []) y₂ → y₄ ≡ splice k₃ (d ∷ []) y₃ → y₅ ≡ splice k₄ (info .put (asInfo m)) y₄ → y₆ ≡ splice k₅ zs y₅ →
+    (t : ℕ) (n : Info) (at : ℕ) (x : List ℕ) {u a b d k₁ k₂ k₃ k₄ k₅ : ℕ} {m : Info} {zs y₁ y₂ y₃ y₄ y₅ y₆ : List ℕ} →
+    length (info .put n) ≡ INFO-SIZE → y₁ ≡ splice at (le 2 u) x → y₂ ≡ splice k₁ (a ∷ []) y₁ →
+    y₃ ≡ splice k₂ (b ∷ []) y₂ → y₄ ≡ splice k₃ (d ∷ []) y₃ → y₅ ≡ splice k₄ (info .put m) y₄ → y₆ ≡ splice k₅ zs y₅ →
     u ≡ t → a ≡ 0 → b ≡ 1 → d ≡ 0 → m ≡ n → zs ≡ replicate (ENTRY-SIZE - 73) 0 → k₁ ≡ at + 2 → k₂ ≡ at + 3 → k₃ ≡ at + 4 → k₄ ≡ at + 5 →
-    k₅ ≡ at + 73 → y₆ ≡ splice at (entry .put (waiting t (release (asInfo n)))) x
+    k₅ ≡ at + 73 → y₆ ≡ splice at (entry .put (waiting t (release n))) x
 release-written t n at x {u} {a} {b} {d} {k₁} {k₂} {k₃} {k₄} {k₅} {m} {zs} {y₁} {y₂} {y₃} {y₄} h p₁ p₂ p₃ p₄ p₅ p₆ eu ea eb ed em ez f₁ f₂ f₃ f₄ f₅ =
-    let q = info .put (asInfo m) in
-    let l : length q ≡ INFO-SIZE = ap (λ (o : PartialKeyEventInfo). length (info .put (asInfo o))) em ∙ info-length n h in
+    let q = info .put m in
+    let l : length q ≡ INFO-SIZE = ap (λ (o : Info). length (info .put o)) em ∙ h in
     marked t at x u a k₁ k₂ (b ∷ d ∷ (q ++ zs)) p₁ p₂
     (meet k₂ 1 k₃ (b ∷ []) (d ∷ (q ++ zs)) y₂ refl (omega arith) p₃
     (meet k₃ 1 k₄ (d ∷ []) (q ++ zs) y₃ refl (omega arith) p₄ (meet k₄ INFO-SIZE k₅ q zs y₄ l (omega arith) p₅ p₆))) eu f₁ f₂
-    ∙ rw (ea, eb, ed, em, ez) (sym (ap (λ (r : List ℕ). splice at r x) (release-put t (asInfo n) (info-length n h))))
+    ∙ rw (ea, eb, ed, em, ez) (sym (ap (λ (r : List ℕ). splice at r x) (release-put t n h)))
 
 pub character-written :
     (t at : ℕ) (x : List ℕ) {u a b d k₁ k₂ k₃ k₄ : ℕ} {zs y₁ y₂ y₃ y₄ y₅ : List ℕ} → y₁ ≡ splice at (le 2 u) x →
@@ -103,10 +130,19 @@ complete-put : (t : ℕ) (e : Event) → entry .put (complete t e) ≡ le 2 t ++
 unfolding entry via pair number either
 complete-put t e = refl
 
-pub complete-written :
-    (t : ℕ) (e : KeyEvent) (at : ℕ) (x : List ℕ) {u a k₁ k₂ : ℕ} {m : KeyEvent} {y₁ y₂ y₃ : List ℕ} → y₁ ≡ splice at (le 2 u) x →
-    y₂ ≡ splice k₁ (a ∷ []) y₁ → y₃ ≡ splice k₂ (event .put (asEvent m)) y₂ → u ≡ t → a ≡ 1 → m ≡ e → k₁ ≡ at + 2 → k₂ ≡ at + 3 →
-    y₃ ≡ splice at (entry .put (complete t (asEvent e))) x
-complete-written t e at x {u} {a} {k₁} {k₂} {m} p₁ p₂ p₃ eu ea em f₁ f₂ =
-    marked t at x u a k₁ k₂ (event .put (asEvent m)) p₁ p₂ p₃ eu f₁ f₂
-    ∙ rw (ea, em) (sym (ap (λ (r : List ℕ). splice at r x) (complete-put t (asEvent e))))
+-- token and mark alone
+pub head-written :
+    (t at : ℕ) (x : List ℕ) {u a k : ℕ} {y₁ y₂ : List ℕ} → y₁ ≡ splice at (le 2 u) x → y₂ ≡ splice k (a ∷ []) y₁ → u ≡ t →
+    a ≡ 1 → k ≡ at + 2 → y₂ ≡ splice at (le 2 t ++ (1 ∷ [])) x
+head-written t at x {u} {a} {k} p₁ p₂ eu ea f =
+    meet at 2 k (le 2 u) (a ∷ []) x (length-le 2 u) f p₁ p₂ ∙ rw (eu, ea)
+
+-- .. before an event that stands there already
+pub completed-headed :
+    (at t : ℕ) (e : Event) (x : List ℕ) {y z : List ℕ} → y ≡ splice (at + 3) (event .put e) x →
+    z ≡ splice at (le 2 t ++ (1 ∷ [])) y → z ≡ splice at (entry .put (complete t e)) x
+completed-headed at t e x p q =
+    let head = le 2 t ++ (1 ∷ []) in
+    let l : length head ≡ 3 = length-append (le 2 t) (1 ∷ []) ∙ ap (λ (n : ℕ). n + 1) (length-le 2 t) in
+    chain-down at 3 head (event .put e) x l p q
+    ∙ ap (λ (r : List ℕ). splice at r x) (append-assoc (le 2 t) (1 ∷ []) (event .put e) ∙ sym (complete-put t e))

@@ -1,6 +1,6 @@
 -- `event::character::control_counts` meets its contract.
 -- Assumes nothing.
-use Rattle.event.proofs.character.LastCharacter.{no-control, counts-always, counts-without-alt}
+use Rattle.event.proofs.character.ControlCounts.{no-control, counts-always, counts-without-alt}
 use Rattle.event.proofs.character.control_counts.Statement.{statement}
 use Rattle.event.proofs.character.control_counts.Tie as tie
 

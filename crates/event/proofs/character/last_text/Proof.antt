@@ -2,10 +2,11 @@
 -- Assumes nothing.
 use mathlib.Core.Path.{_≡_, refl, _∙_}
 use Rattle.area.proofs.Args.{args}
+use Rattle.lookup.specs.Layout.{keyIn}
 use Rattle.session.specs.Builder.{layoutKey, controlCounts}
-use Rattle.session.specs.Types.{asKey}
 use Rattle.event.specs.Written.{keyboardAt}
-use Rattle.event.proofs.character.LastCharacter.{counted, from-layout, from-units}
+use Rattle.event.proofs.character.ControlCounts.{counted}
+use Rattle.event.proofs.character.Completed.{layout-gives, units-give}
 use Rattle.event.proofs.partial.Asked.{as-typed}
 use Rattle.event.proofs.character.last_text.Statement.{statement}
 use Rattle.event.proofs.character.last_text.Tie as tie
@@ -20,7 +21,7 @@ held c = c .before .before
 
 -- from what the layout is asked with
 abbrev asked : tie.After-num-lock-on → tie.Then1
-asked c = c .before .before .before
+asked c = c .before .before
 
 -- ---- whether Control counts, and the layout's key where it does
 
@@ -29,18 +30,18 @@ counted-in :
     let a = start (held c) .args in controlCounts (keyboardAt (a .state .now) (a .block .now)) ≡ c .control-counts .result
 counted-in c =
     let a = start (held c) .args in
-    counted (a .block .now) (a .state .now) (a .h) (args (c .control-counts) .0) (held c .active-modifiers .ensures)
+    counted (a .block .now) (a .state .now) (args (c .control-counts) .0) (held c .active-modifiers .ensures)
     (c .before .has-alt-graph .ensures) (c .control-counts .ensures) (refl, refl)
 
 layout-in :
     (c : tie.After-layout-key) →
     let a = start (held (asked (c .before) .before)) .args in
-    asKey (c .layout-key .result) ≡ layoutKey (keyboardAt (a .state .now) (a .block .now)) (a .h .vkey) (a .h .info .scancode)
+    keyIn (a .block .now) (c .layout-key .result) ≡ layoutKey (keyboardAt (a .state .now) (a .block .now)) (a .vkey) (a .scancode)
 layout-in c =
     let num = c .before in
     let mods = held (asked num .before) in
     let a = start mods .args in
-    as-typed (a .block .now) (a .state .now) (a .h .vkey) (a .h .info .scancode) _ (c .layout-key .ensures .0) (mods .active-modifiers .ensures)
+    as-typed (a .block .now) (a .state .now) (a .vkey) (a .scancode) _ (c .layout-key .ensures .0) (mods .active-modifiers .ensures)
     (num .before .remove-only-ctrl .ensures) (num .num-lock-on .ensures) (refl, refl, refl, refl)
 
 -- ---- the needs
@@ -49,7 +50,7 @@ active-modifiers-requires : tie.Need-active-modifiers-requires
 active-modifiers-requires c κs = tt
 
 has-alt-graph-requires : tie.Need-has-alt-graph-requires
-has-alt-graph-requires c κs = start c .pre .0
+has-alt-graph-requires c κs = start c .pre
 
 control-counts-requires : tie.Need-control-counts-requires
 control-counts-requires c κs = tt
@@ -61,26 +62,23 @@ num-lock-on-requires : tie.Need-num-lock-on-requires
 num-lock-on-requires c κs = tt
 
 layout-key-requires : tie.Need-layout-key-requires
-layout-key-requires c κs = start (held (asked c .before)) .pre .0
+layout-key-requires c κs = start (held (asked c .before)) .pre
 
-key-text-requires : tie.Need-key-text-requires
-key-text-requires c κs = (c .layout-key .ensures .1, c .layout-key .ensures .2)
+to-text-requires : tie.Need-to-text-requires
+to-text-requires c κs = tt
 
 returns : tie.Need-returns
 returns c =
     let key = c .before in
     let test = asked (key .before) in
     let a = start (held (test .before)) .args in
-    (from-layout (a .block .now) (a .state .now) (a .h) (counted-in (test .before) ∙ test .if1 .taken) _ (layout-in key) (c .key-text .ensures .0) refl, c .key-text .ensures .1)
-
-typed-text-requires : tie.Need-typed-text-requires
-typed-text-requires c κs = let test = c .before in start (held (test .before)) .pre .1
+    layout-gives (a .block .now) (a .state .now) (a .vkey) (a .scancode) (counted-in (test .before) ∙ test .if1 .taken) _ _ (layout-in key)
+    (key .layout-key .ensures .1) (c .to-text .ensures) refl
 
 returns-2 : tie.Need-returns-2
 returns-2 c =
-    let test = c .before .before in
-    let a = start (held (test .before)) .args in
-    (from-units (a .block .now) (a .state .now) (a .h) (counted-in (test .before) ∙ test .if1 .left) _ (c .typed-text .ensures .0) (refl, refl), c .typed-text .ensures .1)
+    let a = start (held (c .before)) .args in
+    units-give (a .block .now) (a .state .now) (a .vkey) (a .scancode) (counted-in (c .before) ∙ c .if1 .left)
 
 pub last-text-spec : {M : Type 1} → statement M
 last-text-spec =
@@ -92,7 +90,6 @@ last-text-spec =
     remove-only-ctrl-requires
     num-lock-on-requires
     layout-key-requires
-    key-text-requires
+    to-text-requires
     returns
-    typed-text-requires
     returns-2)

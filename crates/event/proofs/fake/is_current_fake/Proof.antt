@@ -1,21 +1,15 @@
 -- `event::fake::is_current_fake` meets its contract.
 -- Assumes nothing.
-use mathlib.Core.Path.{_≡_, refl, sym, _∙_}
-use Rattle.session.specs.Builder.{isControl}
-use Rattle.session.specs.Types.{asInfo}
-use Rattle.event.proofs.fake.Fake.{control-as, no-flag, not-control, by-scancode}
+use mathlib.Core.Path.{refl, sym, _∙_}
+use Rattle.event.proofs.fake.Fake.{no-flag, not-control, by-scancode}
 use Rattle.event.proofs.fake.is_current_fake.Statement.{statement}
 use Rattle.event.proofs.fake.is_current_fake.Tie as tie
 
 abbrev start : tie.After-has-alt-graph → tie.Start
-start c = c .before .before .before
-
-control-in :
-    (c : tie.After-is-control) → isControl (asInfo (start (c .before) .args .n) .logicalKey) ≡ c .is-control .result
-control-in c = control-as (start (c .before) .args .n) (c .is-control .ensures) refl
+start c = c .before .before
 
 has-alt-graph-requires : tie.Need-has-alt-graph-requires
-has-alt-graph-requires c κs = c .before .before .pre
+has-alt-graph-requires c κs = c .before .pre
 
 is-control-requires : tie.Need-is-control-requires
 is-control-requires c κs = tt
@@ -30,9 +24,9 @@ returns c =
     let key = flag .before in
     let graph = key .before in
     let a = start graph .args in
-    let e = by-scancode (a .block .now) (a .n) (a .kind) (a .wparam) (a .lparam) (sym (graph .has-alt-graph .ensures) ∙ flag .if1 .taken)
-    (control-in key ∙ test .if2 .taken) _ (c .ex-scancode-from-lparam .ensures) in
-    λ state. rw (e state) refl
+    let e = by-scancode (a .block .now) (a .key) (a .kind) (a .wparam) (a .lparam) (sym (graph .has-alt-graph .ensures) ∙ flag .if1 .taken)
+    (key .is-control .ensures) (test .if2 .taken) _ (c .ex-scancode-from-lparam .ensures) in
+    λ state n k. rw (e state n k) refl
 
 returns-2 : tie.Need-returns-2
 returns-2 c =
@@ -40,13 +34,13 @@ returns-2 c =
     let key = flag .before in
     let graph = key .before in
     let a = start graph .args in
-    not-control (a .block .now) (a .n) (a .kind) (a .wparam) (a .lparam) (sym (graph .has-alt-graph .ensures) ∙ flag .if1 .taken) (control-in key ∙ c .if2 .left)
+    not-control (a .block .now) (a .key) (a .kind) (a .wparam) (a .lparam) (sym (graph .has-alt-graph .ensures) ∙ flag .if1 .taken) (key .is-control .ensures) (c .if2 .left)
 
 returns-3 : tie.Need-returns-3
 returns-3 c =
     let graph = c .before .before in
     let a = start graph .args in
-    no-flag (a .block .now) (a .n) (a .kind) (a .wparam) (a .lparam) (sym (graph .has-alt-graph .ensures) ∙ c .if1 .left)
+    no-flag (a .block .now) (a .key) (a .kind) (a .wparam) (a .lparam) (sym (graph .has-alt-graph .ensures) ∙ c .if1 .left)
 
 pub is-current-fake-spec : {M : Type 1} → statement M
 is-current-fake-spec =

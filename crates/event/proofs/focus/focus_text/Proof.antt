@@ -7,30 +7,17 @@ use Rattle.event.proofs.focus.focus_text.Tie as tie
 enum-told : tie.Need-enum-told
 enum-told c = c .match .keys1
 
-key-text-requires : tie.Need-key-text-requires
-key-text-requires c κs = c .before .before .pre
+to-text-requires : tie.Need-to-text-requires
+to-text-requires c κs = tt
 
 enum-told-2 : tie.Need-enum-told-2
 enum-told-2 c = c .match .keys2
 
-no-text-requires : tie.Need-no-text-requires
-no-text-requires c κs = tt
-
 returns : tie.Need-returns
-returns c = let s = c .before .before .before in at-gain (s .args .st) (s .args .k) _ (c .before .enum-told .given .1) (c .key-text .ensures)
+returns c = let s = c .before .before .before in at-gain (s .args .st) (s .args .k) _ (c .before .enum-told .given .1) (c .to-text .ensures)
 
 returns-2 : tie.Need-returns-2
-returns-2 c =
-    let told = c .before in
-    let a = told .before .before .args in at-loss (a .st) (a .k) _ (told .enum-told2 .given .1) (c .no-text .ensures .1)
+returns-2 c = let s = c .before .before in at-loss (s .args .st) (s .args .k) (c .enum-told2 .given .1)
 
 pub focus-text-spec : {M : Type 1} → statement M
-focus-text-spec =
-    tie.close
-    (tie.spec
-    enum-told
-    key-text-requires
-    enum-told-2
-    no-text-requires
-    returns
-    returns-2)
+focus-text-spec = tie.close (tie.spec enum-told to-text-requires enum-told-2 returns returns-2)

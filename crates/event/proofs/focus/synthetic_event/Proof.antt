@@ -1,9 +1,9 @@
 -- `event::focus::synthetic_event` meets its contract.
 -- Assumes nothing.
 use mathlib.Core.Path.{_≡_, refl}
+use Rattle.lookup.specs.Layout.{keyIn}
 use Rattle.session.specs.Builder.{plainKey}
 use Rattle.session.specs.Focus.{focusKey}
-use Rattle.session.specs.Types.{asKey}
 use Rattle.event.specs.Written.{keyboardAt}
 use Rattle.event.proofs.focus.SyntheticEvent.{focused, whole}
 use Rattle.event.proofs.partial.Asked.{plainly}
@@ -23,7 +23,7 @@ scanned c = c .before .before .before
 logical-in :
     (c : tie.After-layout-key) →
     let s = scanned c in
-    let a = start s .args in asKey (c .layout-key .result) ≡ focusKey (keyboardAt (a .state .now) (a .block .now)) (a .vk) (s .scancode-for .result)
+    let a = start s .args in keyIn (a .block .now) (c .layout-key .result) ≡ focusKey (keyboardAt (a .state .now) (a .block .now)) (a .vk) (s .scancode-for .result)
 logical-in c =
     let num = c .before in
     let a = start (scanned c) .args in
@@ -33,7 +33,7 @@ logical-in c =
 plain-in :
     (c : tie.After-layout-key2) →
     let s = scanned (c .before) in
-    let a = start s .args in asKey (c .layout-key2 .result) ≡ plainKey (keyboardAt (a .state .now) (a .block .now)) (a .vk) (s .scancode-for .result)
+    let a = start s .args in keyIn (a .block .now) (c .layout-key2 .result) ≡ plainKey (keyboardAt (a .state .now) (a .block .now)) (a .vk) (s .scancode-for .result)
 plain-in c =
     let s = scanned (c .before) in
     let a = start s .args in
@@ -57,7 +57,7 @@ layout-key-requires-2 : tie.Need-layout-key-requires-2
 layout-key-requires-2 c κs = start (scanned c) .pre
 
 focus-text-requires : tie.Need-focus-text-requires
-focus-text-requires c κs = let k = c .before .layout-key .ensures in (k .1, k .2)
+focus-text-requires c κs = tt
 
 keycode-from-scancode-requires : tie.Need-keycode-from-scancode-requires
 keycode-from-scancode-requires c κs = tt
@@ -73,8 +73,8 @@ returns c =
     let logical = plain .before in
     let s = scanned logical in
     let a = start s .args in
-    whole (a .block .now) (a .state .now) (a .vk) (a .st) (s .scancode-for .ensures) (logical-in logical) (plain-in plain) (text .focus-text .ensures)
-    (code .keycode-from-scancode .ensures) (c .get-location .ensures) (logical .layout-key .ensures .2) (plain .layout-key2 .ensures .2)
+    whole (a .block .now) (a .state .now) (a .vk) (a .st) _ _ _ (s .scancode-for .ensures) (logical-in logical) (plain-in plain) (text .focus-text .ensures)
+    (code .keycode-from-scancode .ensures) (c .get-location .ensures) (logical .layout-key .ensures .1) (plain .layout-key2 .ensures .1)
     (refl, refl, refl, refl, refl) _ refl
 
 pub synthetic-event-spec : {M : Type 1} → statement M

@@ -2,24 +2,22 @@
 -- Assumes nothing.
 use mathlib.Core.Path.{refl}
 use native.Mathlib.Omega.{arith}
-use Rattle.event.proofs.key_event.Events.{no-texts}
+use Rattle.event.proofs.key_event.PressEvent.{pressed}
 use Rattle.event.proofs.key_event.press_event.Statement.{statement}
 use Rattle.event.proofs.key_event.press_event.Tie as tie
 
-no-text-requires : tie.Need-no-text-requires
-no-text-requires c κs = tt
+keycode-from-scancode-requires : tie.Need-keycode-from-scancode-requires
+keycode-from-scancode-requires c κs = tt
 
-finalize-requires : tie.Need-finalize-requires
-finalize-requires c κs = let a = c .no-text .ensures .1 in (c .before .pre, omega arith, omega arith)
+press-key-requires : tie.Need-press-key-requires
+press-key-requires c κs = tt
 
 returns : tie.Need-returns
 returns c =
-    let r = c .finalize .ensures in (no-texts _ _ _ _ _ refl refl (c .before .no-text .ensures .0) (r .0), r .1)
+    let key = c .before in
+    let code = key .before in
+    let a = code .before .args in
+    pressed (a .n) (a .mark) (omega arith) (code .keycode-from-scancode .ensures) (key .press-key .ensures) (refl, refl, refl)
 
 pub press-event-spec : {M : Type 1} → statement M
-press-event-spec =
-    tie.close
-    (tie.spec
-    no-text-requires
-    finalize-requires
-    returns)
+press-event-spec = tie.close (tie.spec keycode-from-scancode-requires press-key-requires returns)

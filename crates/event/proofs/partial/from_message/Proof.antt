@@ -1,8 +1,8 @@
 -- `event::partial::from_message` meets its contract.
 -- Assumes nothing.
 use mathlib.Core.Path.{_≡_, refl}
+use Rattle.lookup.specs.Layout.{keyIn}
 use Rattle.session.specs.Builder.{layoutKey, plainKey}
-use Rattle.session.specs.Types.{asKey}
 use Rattle.event.specs.Written.{keyboardAt}
 use Rattle.event.proofs.partial.Asked.{as-typed, plainly}
 use Rattle.event.proofs.partial.Info.{Known, known, by-force, by-layout}
@@ -39,7 +39,7 @@ known-in c =
 logical-in :
     (c : tie.After-layout-key) →
     let s = scanned (forced (c .before)) in
-    let a = start s .args in asKey (c .layout-key .result) ≡ layoutKey (keyboardAt (a .state .now) (a .block .now)) (a .vkey) (s .message-scancode .result)
+    let a = start s .args in keyIn (a .block .now) (c .layout-key .result) ≡ layoutKey (keyboardAt (a .state .now) (a .block .now)) (a .vkey) (s .message-scancode .result)
 logical-in c =
     let shown = c .before in
     let mods = forced shown .before .before .before in
@@ -50,7 +50,7 @@ logical-in c =
 plain-in :
     (c : tie.After-layout-key2) →
     let s = scanned (forced (c .before .before)) in
-    let a = start s .args in asKey (c .layout-key2 .result) ≡ plainKey (keyboardAt (a .state .now) (a .block .now)) (a .vkey) (s .message-scancode .result)
+    let a = start s .args in keyIn (a .block .now) (c .layout-key2 .result) ≡ plainKey (keyboardAt (a .state .now) (a .block .now)) (a .vkey) (s .message-scancode .result)
 plain-in c =
     let a = start (scanned (forced (c .before .before))) .args in
     plainly (a .block .now) (a .state .now) (a .vkey) _ _ (c .layout-key2 .ensures .0) (refl, refl, refl, refl)
@@ -72,14 +72,10 @@ keycode-from-scancode-requires c κs = tt
 forced-key-requires : tie.Need-forced-key-requires
 forced-key-requires c κs = tt
 
-bare-key-requires : tie.Need-bare-key-requires
-bare-key-requires c κs = tt
-
 returns : tie.Need-returns
 returns c =
-    let test = c .before in
-    let a = start (scanned (test .before)) .args in
-    by-force (a .block .now) (a .state .now) (a .vkey) (a .l) (test .before .forced-key .result) (known-in (test .before)) (test .if1 .taken) _ (c .bare-key .ensures)
+    let a = start (scanned (c .before)) .args in
+    by-force (a .block .now) (a .state .now) (a .vkey) (a .l) (c .before .forced-key .result) (known-in (c .before)) (c .if1 .taken)
 
 num-lock-on-requires : tie.Need-num-lock-on-requires
 num-lock-on-requires c κs = tt
@@ -93,17 +89,13 @@ layout-key-requires c κs = start (scanned (forced c)) .pre
 layout-key-requires-2 : tie.Need-layout-key-requires-2
 layout-key-requires-2 c κs = start (scanned (forced (c .before))) .pre
 
-undead-key-requires : tie.Need-undead-key-requires
-undead-key-requires c κs = (c .layout-key2 .ensures .1, c .layout-key2 .ensures .2)
-
 returns-2 : tie.Need-returns-2
 returns-2 c =
-    let plain = c .before in
-    let logical = plain .before in
+    let logical = c .before in
     let test = logical .before .before .before in
     let a = start (scanned (test .before)) .args in
-    by-layout (a .block .now) (a .state .now) (a .vkey) (a .l) (test .before .forced-key .result) (known-in (test .before)) (test .if1 .left) _ _ _
-    (logical-in logical, logical .layout-key .ensures .2) (plain-in plain) (c .undead-key .ensures)
+    by-layout (a .block .now) (a .state .now) (a .vkey) (a .l) (test .before .forced-key .result) (known-in (test .before)) (test .if1 .left) _ _
+    (logical-in logical, logical .layout-key .ensures .1) (plain-in c, c .layout-key2 .ensures .1)
 
 pub from-message-spec : {M : Type 1} → statement M
 from-message-spec =
@@ -114,11 +106,9 @@ from-message-spec =
     get-location-requires
     keycode-from-scancode-requires
     forced-key-requires
-    bare-key-requires
     returns
     num-lock-on-requires
     remove-only-ctrl-requires
     layout-key-requires
     layout-key-requires-2
-    undead-key-requires
     returns-2)

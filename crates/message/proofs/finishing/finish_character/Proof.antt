@@ -1,26 +1,35 @@
 -- `message::finishing::finish_character` meets its contract.
 -- Assumes nothing.
-use mathlib.Core.Path.{_≡_, refl, ap, _∙_}
+use mathlib.Core.Path.{_≡_, refl, _∙_}
 use mathlib.Core.Bool.{Bool, true, false, not, _&&_}
+use mathlib.Core.List.{List}
 use mathlib.Core.Option.{some, none}
 use Prim.Native.Nat.{ℕ, _<_}
 use native.Mathlib.Omega.{arith}
 use lib.ListN.{getD}
 use borrow.Author.Needs.{needs}
 use Rattle.area.proofs.Args.{args}
+use Rattle.segmentation.specs.Layout.{tableOf}
+use Rattle.session.specs.Event.{Event}
 use Rattle.session.specs.Session.{character, eventFits}
 use Rattle.session.specs.Area.{decode}
+use Rattle.session.specs.Builder.{charEvent}
 use Rattle.session.specs.Calls.{moreComing, findWait}
 use Rattle.session.specs.Questions.{isHeld}
-use Rattle.session.specs.Types.{asHeld}
 use Rattle.session.proofs.Fits.{char-fits}
+use Rattle.record.specs.declared.read.Pending.the-variants as case
 use Rattle.queue.specs.Changed.{holding}
+use Rattle.queue.specs.Completing.{heldIn}
+use Rattle.queue.specs.Place.{StandsAt}
 use Rattle.queue.specs.Room.{IsArea}
+use Rattle.queue.specs.Stands.{EventStands}
 use Rattle.queue.proofs.Areas.{AreaOf, own-area}
-use Rattle.queue.proofs.HeldPress.{can-read, is-read, read-fits, forgotten}
+use Rattle.queue.proofs.HeldPress.{held-there, held-passes, held-fits, forgotten, unheld, unheld-bytes, unheld-stands}
+use Rattle.queue.proofs.Standing.{ready, same-lengths}
+use Rattle.event.specs.Written.{keyboardAt}
 use Rattle.event.proofs.focus.Keyboard.{keyboard-at-ok}
 use Rattle.message.specs.Peeked.{asPeeked}
-use Rattle.message.proofs.finishing.WaitingEntry.{character-waits}
+use Rattle.message.proofs.finishing.WaitingEntry.{few, character-waits}
 use Rattle.message.proofs.finishing.FinishEffect.{told-completes, held-and-last, char-dropped, char-done, same-place, finished}
 use Rattle.message.proofs.finishing.finish_character.Statement.{statement}
 use Rattle.message.proofs.finishing.finish_character.Tie as tie
@@ -60,22 +69,49 @@ both-in c =
     let a = areas (c .before) .before .args in
     held-and-last (decode (a .session .now) .held) (moreComing (asPeeked (a .peeked))) (asked-in (c .before) true (c .if1 .taken))
 
--- the last one: from what was read of the held press back to that test
-abbrev last : tie.After-held-at → tie.Then1
-last c = c .before .before .before
+-- the last one: the press that is held stands in the area
+abbrev start : tie.Then1 → tie.After-slice-known
+start c = areas (c .before)
 
-abbrev start : tie.After-held-at → tie.After-slice-known
-start c = areas (last c .before)
+read-in : (c : tie.Then1) → let x = start c .before .args .session .now in decode x .held ≡ some (heldIn x)
+read-in c = held-there _ (area-in (start c .before)) (both-in c .0)
 
--- the press that was held is what was read
-read-in : (c : tie.After-held-at) → decode (start c .before .args .session .now) .held ≡ some (asHeld (c .held-at .result))
-read-in c = is-read _ (area-in (start c .before)) (both-in (last c) .0) _ (c .held-at .ensures .0)
+-- its event, which is in range
+abbrev char-in : tie.Then1 → Event
+char-in c =
+    let a = start c .before .args in charEvent (keyboardAt (a .state .now) (a .block .now)) (tableOf (a .table .now)) (heldIn (a .session .now))
 
--- and none is held any more
-forgets-in : (c : tie.After-forget-held) → AreaOf (holding (decode (start (c .before .before .before) .before .args .session .now)) none) (c .forget-held .last .0)
-forgets-in c =
-    let known = start (c .before .before .before) in
-    forgotten _ (own-area _ (bytes-in known) (area-in (known .before))) (c .forget-held .ensures)
+fits-in : (c : tie.Then1) → eventFits (char-in c) ≡ true
+fits-in c =
+    let known = start c in
+    let f = held-fits _ (area-in (known .before)) (both-in c .0) (bytes-in known) in
+    let board = keyboard-at-ok _ (known .before .args .state .now) (block-in (blocks (c .before))) (known .before .pre .0 .block-ok) in
+    char-fits _ _ _ board (f .1) (f .0)
+
+-- the area with none held any more: it is that of a session, and the entry stands where it stood
+abbrev none-in : tie.Then1 → List ℕ
+none-in c = unheld (start c .before .args .session .now) (bytes-in (start c)) (area-in (start c .before))
+
+none-bytes : (c : tie.Then1) (i : ℕ) → getD (none-in c) i 0 < 256
+none-bytes c = unheld-bytes _ (bytes-in (start c)) (area-in (start c .before))
+
+none-area : (c : tie.Then1) → AreaOf (holding (decode (start c .before .args .session .now)) none) (none-in c)
+none-area c = forgotten _ (own-area _ (bytes-in (start c)) (area-in (start c .before))) refl
+
+none-stands : (c : tie.Then1) → let a = start c .before .args in StandsAt (none-in c) (a .token .0) (a .place)
+none-stands c = same-place _ none _ _ (none-area c) (start c .before .pre .0 .stands)
+
+-- the event stands where it goes, in the area with no press held
+event-in :
+    (c : tie.After-forget-held) →
+    let put = c .before .before .before .before .before .before in
+    let then = put .before .before .before in
+    let a = start then .before .args in
+    EventStands (a .place) (char-in then) (none-in then) (a .answers .now) (c .forget-held .last .0) (put .put-last .last .1 .0)
+event-in c =
+    let put = c .before .before .before .before .before .before in
+    let known = start (put .before .before .before) in
+    unheld-stands _ (bytes-in known) (area-in (known .before)) _ _ (put .put-last .ensures) (c .forget-held .ensures)
 
 header-at-requires : tie.Need-header-at-requires
 header-at-requires c κs = search needs
@@ -83,35 +119,27 @@ header-at-requires c κs = search needs
 completes-requires : tie.Need-completes-requires
 completes-requires c κs = search needs
 
-sub-held-at : tie.Need-sub-held-at
-sub-held-at c = search needs
-
-part-held-at-start : tie.Need-part-held-at-start
-part-held-at-start c = search needs
-
-part-held-at-end : tie.Need-part-held-at-end
-part-held-at-end c = search needs
-
-held-at-requires : tie.Need-held-at-requires
-held-at-requires c κs = let then = c .before .before in can-read _ (area-in (areas (then .before) .before)) (both-in then .0)
-
-char-event-requires : tie.Need-char-event-requires
-char-event-requires c κs = search needs
+put-last-requires : tie.Need-put-last-requires
+put-last-requires c κs =
+    let then = c .before .before in
+    let known = start then in
+    let p = known .before .pre in
+    let a = area-in (known .before) in (
+      record { session = a .size; answers = p .0 .answers; few = few case.Character _ _ _ _ _ (p .0) (bytes-in known); ok = held-passes _ a (both-in then .0) },
+      p .0 .block-ok,
+      p .1,
+    )
 
 forget-held-requires : tie.Need-forget-held-requires
-forget-held-requires c κs = area-in (start (c .before .before) .before)
+forget-held-requires c κs =
+    let put = c .before .before .before .before .before in
+    let known = start (put .before .before .before) in same-lengths (known .before .args .place) (put .put-last .ensures) .0 ∙ area-in (known .before) .size
 
 complete-pending-requires : tie.Need-complete-pending-requires
 complete-pending-requires c κs =
     let forgot = c .before .before .before .before in
-    let made = forgot .before .before in
-    let read = made .before in
-    let known = start read in
-    let p = known .before .pre .0 in
-    let f = read-fits _ (area-in (known .before)) (both-in (last read) .0) (bytes-in known) _ (read .held-at .ensures .0) in
-    let board = keyboard-at-ok _ (known .before .args .state .now) (block-in (blocks (last read .before))) (p .block-ok) in
-    let e = made .char-event .ensures in
-    (same-place _ none _ _ (forgets-in forgot) (p .stands), p .answers, e .1, ap eventFits (e .0) ∙ char-fits _ _ _ board (f .1) (f .0))
+    let then = let put = forgot .before .before .before .before .before .before in put .before .before .before in
+    ready _ (none-bytes then) _ _ (none-stands then) (event-in forgot) (start then .before .pre .0 .answers)
 
 same-length : tie.Need-same-length
 same-length c = search needs
@@ -122,12 +150,11 @@ same-length-2 c = search needs
 returns : tie.Need-returns
 returns c =
     let completed = c .before .before .before .before in
-    let lent = completed .before in
-    let forgot = lent .before .before .before .before in
-    let made = forgot .before .before in
-    let read = made .before in
-    finished _ _ _ _ _ _ _ (char-done _ _ _ _ _ (waits-in (start read .before)) _ (read-in read) (both-in (last read) .1) (made .char-event .ensures .0)) _
-    (forgets-in forgot .back) (completed .complete-pending .ensures)
+    let forgot = completed .before .before .before .before .before in
+    let then = let put = forgot .before .before .before .before .before .before in put .before .before .before in
+    let first = start then .before in
+    finished _ _ _ _ _ _ _ (char-done _ _ _ _ _ (waits-in first) _ (read-in then) (both-in then .1) refl) _ (none-area then .back)
+    (completed .complete-pending .ensures (none-in then) _ (char-in then) (none-bytes then) (none-stands then) (fits-in then) (first .pre .0 .answers) (event-in forgot))
 
 remove-pending-requires : tie.Need-remove-pending-requires
 remove-pending-requires c κs = search needs
@@ -151,11 +178,7 @@ finish-character-spec =
     (tie.spec
     header-at-requires
     completes-requires
-    sub-held-at
-    part-held-at-start
-    part-held-at-end
-    held-at-requires
-    char-event-requires
+    put-last-requires
     forget-held-requires
     complete-pending-requires
     same-length

@@ -8,22 +8,23 @@ use native.Mathlib.Omega.{arith}
 use lib.ListN.{getD, length}
 use borrow.Author.Needs.{needs}
 use Rattle.session.specs.Limits.{ENTRIES-MOST, ENTRIES-AT, ENTRY-SIZE}
+use Rattle.session.specs.Event.{Held}
 use Rattle.session.specs.Session.{press, eventFits, heldFits, unitsWithin}
 use Rattle.session.specs.Area.{decode}
 use Rattle.session.specs.Builder.{heldOf, fake}
 use Rattle.session.specs.Calls.{holds, findWait}
-use Rattle.session.specs.Types.{asHeld}
 use Rattle.session.proofs.Fits.{held-fits, press-fits}
 use Rattle.record.specs.declared.read.Pending.the-variants as case
 use Rattle.queue.specs.Changed.{holding}
 use Rattle.queue.specs.Place.{StandsAt}
 use Rattle.queue.proofs.Areas.{AreaOf, own-area, held-area}
-use Rattle.queue.proofs.HeldPress.{forgotten}
+use Rattle.queue.proofs.HeldPress.{forgotten, forgot-plainly}
+use Rattle.queue.proofs.Standing.{ready}
 use Rattle.event.specs.Written.{keyboardAt}
 use Rattle.event.proofs.focus.Keyboard.{keyboard-at-ok}
 use Rattle.message.specs.Peeked.{asPeeked}
 use Rattle.message.proofs.finishing.WaitingEntry.{few, press-reads, press-waits, press-range}
-use Rattle.message.proofs.finishing.FinishEffect.{told-holds, told-fake, told-held, new-within, info-of, press-held, press-fake, press-done, same-place, finished}
+use Rattle.message.proofs.finishing.FinishEffect.{pressOf, key-of, told-holds, told-fake, told-held, new-within, press-held, press-fake, press-done, same-place, finished}
 use Rattle.message.proofs.finishing.finish_press.Statement.{statement}
 use Rattle.message.proofs.finishing.finish_press.Tie as tie
 
@@ -41,32 +42,45 @@ own-in c = own-area _ (bytes-in c) (c .before .pre .stands .area)
 
 -- ---- the press, from where it is made back to the areas
 
-abbrev blocks : tie.After-press → tie.After-shared-slice-known2
-blocks c = c .before .before .before .before
+abbrev info : tie.After-press-mark → tie.After-from-message
+info c = c .before .before
 
-abbrev areas : tie.After-press → tie.After-slice-known
+abbrev read : tie.After-press-mark → tie.After-pressed-at
+read c = info c .before
+
+abbrev blocks : tie.After-press-mark → tie.After-shared-slice-known2
+blocks c = read c .before .before .before
+
+abbrev areas : tie.After-press-mark → tie.After-slice-known
 areas c = blocks c .before .before .before
 
 -- what waits is the press as it was read
 waits-in :
-    (c : tie.After-press) →
+    (c : tie.After-press-mark) →
     let a = areas c .before .args in
-    let r = c .before .pressed-at .result in findWait (a .token .0) (decode (a .session .now) .entries) ≡ some (press (r .vkey) (r .lparam))
-waits-in c = press-waits _ _ _ _ _ (areas c .before .pre) (bytes-in (areas c)) _ _ (c .before .pressed-at .ensures) refl
+    let r = read c .pressed-at .result in findWait (a .token .0) (decode (a .session .now) .entries) ≡ some (press (r .vkey) (r .lparam))
+waits-in c = press-waits _ _ _ _ _ (areas c .before .pre) (bytes-in (areas c)) _ _ (read c .pressed-at .ensures) refl
+
+-- the press, with no units yet
+abbrev press-in : tie.After-press-mark → Held
+press-in c = pressOf (areas c .before .args .block .now) (info c .from-message .result) (read c .pressed-at .result .vkey) (c .press-mark .result)
 
 made-in :
-    (c : tie.After-press) →
+    (c : tie.After-press-mark) →
     let a = areas c .before .args in
-    let r = c .before .pressed-at .result in asHeld (c .press .result) ≡ heldOf (keyboardAt (a .state .now) (a .block .now)) (r .vkey) (r .lparam)
-made-in c = let a = areas c .before .args in told-held (a .block .now) (a .state .now) _ _ (c .press .ensures .0) (refl, refl)
+    let r = read c .pressed-at .result in press-in c ≡ heldOf (keyboardAt (a .state .now) (a .block .now)) (r .vkey) (r .lparam)
+made-in c =
+    let a = areas c .before .args in
+    let i = info c .from-message .ensures .0 in
+    told-held (a .block .now) (a .state .now) _ _ (info c .from-message .result) i (c .press-mark .ensures _ _ (key-of _ _)) (refl, refl)
 
-fits-in : (c : tie.After-press) → heldFits (some (asHeld (c .press .result))) ≡ true
+fits-in : (c : tie.After-press-mark) → heldFits (some (press-in c)) ≡ true
 fits-in c =
     let p = areas c .before .pre in
     let l = press-range _ _ _ _ _ p (bytes-in (areas c)) _ _ (waits-in c) in
     rw (made-in c) (held-fits _ _ _ (keyboard-at-ok _ (areas c .before .args .state .now) (block-in (blocks c)) (p .block-ok)) (l .0) (l .1))
 
-short-in : (c : tie.After-press) → unitsWithin (some (asHeld (c .press .result))) ≡ true
+short-in : (c : tie.After-press-mark) → unitsWithin (some (press-in c)) ≡ true
 short-in c = rw (made-in c) (new-within _ _ _)
 
 -- ---- what was peeked
@@ -81,27 +95,27 @@ passes-in c = told-holds (c .before .holds .ensures) (c .if1 .left) refl
 abbrev forgot : tie.After-is-fake → tie.After-forget-held
 forgot c = c .before .before .before
 
-abbrev made : tie.After-is-fake → tie.After-press
+abbrev made : tie.After-is-fake → tie.After-press-mark
 made c = forgot c .before .before .before .before
 
 fake-in :
     (c : tie.Then2) →
     let m = made (c .before) in
-    let a = areas m .before .args in fake (keyboardAt (a .state .now) (a .block .now)) (asHeld (m .press .result) .info) (asPeeked (a .peeked)) ≡ true
-fake-in c = rw (← info-of (made (c .before) .press .result)) (told-fake _ _ (c .before .is-fake .ensures _) (c .if2 .taken) refl)
+    let a = areas m .before .args in fake (keyboardAt (a .state .now) (a .block .now)) (press-in m .info) (asPeeked (a .peeked)) ≡ true
+fake-in c = told-fake _ _ (c .before .is-fake .ensures _ _ (key-of _ _)) (c .if2 .taken) refl
 
 real-in :
     (c : tie.Else2) →
     let m = made (c .before) in
-    let a = areas m .before .args in fake (keyboardAt (a .state .now) (a .block .now)) (asHeld (m .press .result) .info) (asPeeked (a .peeked)) ≡ false
-real-in c = rw (← info-of (made (c .before) .press .result)) (told-fake _ _ (c .before .is-fake .ensures _) (c .if2 .left) refl)
+    let a = areas m .before .args in fake (keyboardAt (a .state .now) (a .block .now)) (press-in m .info) (asPeeked (a .peeked)) ≡ false
+real-in c = told-fake _ _ (c .before .is-fake .ensures _ _ (key-of _ _)) (c .if2 .left) refl
 
 -- ---- the press that is held after it: itself, or none
 
 sets-in :
     (c : tie.After-set-held) →
     let m = c .before .before .before .before in
-    AreaOf (holding (decode (areas m .before .args .session .now)) (some (asHeld (m .press .result)))) (c .set-held .last .0)
+    AreaOf (holding (decode (areas m .before .args .session .now)) (some (press-in m))) (c .set-held .last .0)
 sets-in c =
     let m = c .before .before .before .before in
     held-area _ _ (own-in (areas m)) (short-in m) (fits-in m) (c .set-held .ensures)
@@ -109,7 +123,9 @@ sets-in c =
 forgets-in :
     (c : tie.After-forget-held) →
     AreaOf (holding (decode (areas (c .before .before .before .before) .before .args .session .now)) none) (c .forget-held .last .0)
-forgets-in c = forgotten _ (own-in (areas (c .before .before .before .before))) (c .forget-held .ensures)
+forgets-in c =
+    let known = areas (c .before .before .before .before) in
+    forgotten _ (own-in known) (forgot-plainly (bytes-in known) (own-in known .area) (c .forget-held .ensures))
 
 -- ---- where the press is read
 
@@ -142,8 +158,11 @@ pressed-at-requires c κs =
     let known = part .before .before .before .before in
     press-reads _ _ _ _ _ (known .before .pre) (bytes-in known) (part-pressed-at-start part) refl
 
-press-requires : tie.Need-press-requires
-press-requires c κs = search needs
+from-message-requires : tie.Need-from-message-requires
+from-message-requires c κs = search needs
+
+press-mark-requires : tie.Need-press-mark-requires
+press-mark-requires c κs = search needs
 
 holds-requires : tie.Need-holds-requires
 holds-requires c κs = search needs
@@ -151,7 +170,7 @@ holds-requires c κs = search needs
 set-held-requires : tie.Need-set-held-requires
 set-held-requires c κs =
     let m = c .before .before .before in
-    (own-in (areas m) .area, m .press .ensures .1, omega (arith, m .press .ensures .2), fits-in m)
+    (own-in (areas m) .area, info m .from-message .ensures .1, fits-in m)
 
 remove-pending-requires : tie.Need-remove-pending-requires
 remove-pending-requires c κs =
@@ -176,10 +195,13 @@ returns c =
     (removed .remove-pending .ensures)
 
 forget-held-requires : tie.Need-forget-held-requires
-forget-held-requires c κs = own-in (areas (c .before .before .before)) .area
+forget-held-requires c κs = own-in (areas (c .before .before .before)) .area .size
 
 is-fake-requires : tie.Need-is-fake-requires
 is-fake-requires c κs = search needs
+
+bytes-forgot : (c : tie.After-is-fake) (i : ℕ) → getD (forgot c .forget-held .last .0) i 0 < 256
+bytes-forgot c i = omega (arith, c .before .slice-known6 .given i)
 
 -- with no press held the entry stands where it stood
 stands-in :
@@ -210,12 +232,19 @@ returns-2 c =
 press-event-requires : tie.Need-press-event-requires
 press-event-requires c κs = search needs
 
-complete-pending-requires : tie.Need-complete-pending-requires
-complete-pending-requires c κs =
+put-event-requires : tie.Need-put-event-requires
+put-event-requires c κs =
     let event = c .before .before in
     let fake = event .before .before in
-    let made-event = event .press-event .ensures in
-    (stands-in fake, areas (made fake) .before .pre .answers, made-event .1, ap eventFits (made-event .0) ∙ press-fits _ (fits-in (made fake)))
+    let m = made fake in
+    (stands-in fake .area .size, areas m .before .pre .answers, place-in (areas m), event .press-event .ensures _ (info m .from-message .ensures .1) 0 .1)
+
+complete-pending-requires : tie.Need-complete-pending-requires
+complete-pending-requires c κs =
+    let put = c .before .before .before .before .before .before in
+    let event = put .before .before .before in
+    let fake = event .before .before in
+    ready _ (bytes-forgot fake) _ _ (stands-in fake) (put .put-event .ensures) (areas (made fake) .before .pre .answers)
 
 same-length-5 : tie.Need-same-length-5
 same-length-5 c = search needs
@@ -226,13 +255,15 @@ same-length-6 c = search needs
 returns-3 : tie.Need-returns-3
 returns-3 c =
     let completed = c .before .before .before .before in
-    let event = completed .before .before .before in
+    let lent = completed .before in
+    let put = lent .before .before .before .before .before .before in
+    let event = put .before .before .before in
     let test = event .before in
     let k = forgot (test .before) in
     let m = made (test .before) in
-    λ r. finished _ _ r _ _ _ _
-    (press-done _ _ r _ _ _ _ (waits-in m) _ (made-in m) (passes-in (k .before .before)) (real-in test) (event .press-event .ensures .0)) _
-    (forgets-in k .back) (completed .complete-pending .ensures)
+    let e = event .press-event .ensures _ (info m .from-message .ensures .1) _ .0 in
+    λ r. finished _ _ r _ _ _ _ (press-done _ _ r _ _ _ _ (waits-in m) _ (made-in m) (passes-in (k .before .before)) (real-in test) e) _ (forgets-in k .back)
+    (completed .complete-pending .ensures _ _ _ (bytes-forgot (test .before)) (stands-in (test .before)) (ap eventFits e ∙ press-fits _ (fits-in m)) (areas m .before .pre .answers) (put .put-event .ensures))
 
 pub finish-press-spec : {M : Type 1} → statement M
 finish-press-spec =
@@ -245,7 +276,8 @@ finish-press-spec =
     part-pressed-at-start
     part-pressed-at-end
     pressed-at-requires
-    press-requires
+    from-message-requires
+    press-mark-requires
     holds-requires
     set-held-requires
     remove-pending-requires
@@ -259,6 +291,7 @@ finish-press-spec =
     same-length-4
     returns-2
     press-event-requires
+    put-event-requires
     complete-pending-requires
     same-length-5
     same-length-6

@@ -4,7 +4,7 @@ use mathlib.Core.Path.{_≡_, refl, _∙_}
 use Prim.Native.Nat.{_-_, _≤_}
 use native.Mathlib.Omega.{arith}
 use lib.ListN.{length}
-use Rattle.session.specs.Types.{asEvent}
+use Rattle.session.specs.InBlock.{eventIn}
 use Rattle.session.proofs.Writes.{Handing}
 use Rattle.event.proofs.focus.Events.{eventsTo, noted-here, made-here}
 use Rattle.event.proofs.focus.Keyboard.{keyboard-at-ok}
@@ -63,7 +63,7 @@ loop-again c =
     let keys = noted .focus-keys .result .keys in
     let m = made-here (a .block .now) (a .state .now) (a .st) _ _ _ keys _ (turn .loop .i) (made .synthetic-event .ensures .0) (refl, refl, refl, omega arith) in (
       omega arith,
-      handed-next (a .block .now) (a .state .now) (a .st) ok keys (turn .loop .i) (asEvent (made .synthetic-event .result)) (a .answers .now)
+      handed-next (a .block .now) (a .state .now) (a .st) ok keys (turn .loop .i) (eventIn (a .block .now) (made .synthetic-event .result)) (a .answers .now)
           (omega arith) m (turn .loop .inv .1) (put .put-event-at .ensures),
     )
 

@@ -4,7 +4,7 @@
 use mathlib.Core.Path.{_≡_, refl, sym, _∙_}
 use Prim.Native.Nat.{_-_, _≤_}
 use native.Mathlib.Omega.{arith}
-use Rattle.session.specs.Types.{asEvent}
+use Rattle.session.specs.InBlock.{eventIn}
 use Rattle.event.proofs.focus.Events.{noted-here, made-here}
 use Rattle.event.proofs.focus.Keyboard.{keyboard-at-ok}
 use Rattle.message.proofs.opening.FocusAnswers.{event-fits}
@@ -37,8 +37,8 @@ synthetic-event-requires c κs =
     let noted = turn .before .before in
     noted .before .before .before .before .pre .1
 
-add-complete-requires : tie.Need-add-complete-requires Inv-loop μ-loop
-add-complete-requires c κs =
+add-event-requires : tie.Need-add-event-requires Inv-loop μ-loop
+add-event-requires c κs =
     let made = c .before in
     let turn = made .before .before in
     let noted = turn .before .before in
@@ -76,7 +76,7 @@ loop-again c =
     let m = made-here (a .block .now) (a .state .now) (a .st) _ _ _ (r .keys) _ (turn .loop .i) (made .synthetic-event .ensures .0) (refl, refl, refl, omega arith) in (
       omega arith,
       next-queued (a .block .now) (a .state .now) (a .st) (a .session .now) (start .pre .2) (start .pre .3) (r .keys) (r .len) k
-          (turn .loop .i) (omega arith) (turn .loop .inv .1) ok (asEvent (made .synthetic-event .result)) m (put .add-complete .ensures),
+          (turn .loop .i) (omega arith) (turn .loop .inv .1) ok (eventIn (a .block .now) (made .synthetic-event .result)) m (put .add-event .ensures),
     )
 
 same-length : tie.Need-same-length Inv-loop μ-loop
@@ -106,7 +106,7 @@ queue-focus-spec =
     loop-holds
     array-read-synthetic-event
     synthetic-event-requires
-    add-complete-requires
+    add-event-requires
     add-i
     loop-less
     loop-again

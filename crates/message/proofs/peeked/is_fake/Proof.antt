@@ -2,7 +2,6 @@
 -- Assumes nothing.
 use Rattle.message.proofs.peeked.Peeks.{peeked-none, peeked-some, none-fake}
 use Rattle.event.specs.Written.{keyboardAt}
-use Rattle.session.specs.Types.{asInfo}
 use Rattle.session.specs.Builder.{fake}
 use Rattle.session.specs.Given.{Message}
 use mathlib.Core.Option.{Option}
@@ -21,15 +20,15 @@ is-current-fake-requires : tie.Need-is-current-fake-requires
 is-current-fake-requires c κs = search needs
 
 returns : tie.Need-returns
-returns c = λ state. none-fake _ _ _ (peeked-none _ (c .enum-told .given .1))
+returns c = λ state n e. none-fake _ _ _ (peeked-none _ (c .enum-told .given .1))
 
 returns-2 : tie.Need-returns-2
 returns-2 c =
-    λ state.
+    λ state n e.
     let told = c .before .before in
     let a = told .before .before .before .args in
-    c .is-current-fake .ensures state
-    ∙ ap (λ (p : Option Message). fake (keyboardAt state (a .block .now)) (asInfo (a .info)) p) (sym (peeked-some _ _ _ _ (told .peeked .given .1)))
+    c .is-current-fake .ensures state n e
+    ∙ ap (λ (p : Option Message). fake (keyboardAt state (a .block .now)) n p) (sym (peeked-some _ _ _ _ (told .peeked .given .1)))
 
 pub is-fake-spec : {M : Type 1} → statement M
 is-fake-spec =

@@ -1,10 +1,8 @@
 -- `queue::held_press::forget_held` meets its contract.
 -- Assumes nothing.
 use mathlib.Core.Path.{refl}
-use mathlib.Core.Option.{none}
-use native.Mathlib.Omega.{arith}
 use borrow.Author.Needs.{needs}
-use Rattle.queue.proofs.HeldPress.{held-set}
+use Rattle.queue.proofs.HeldPress.{held-forgotten}
 use Rattle.queue.proofs.held_press.forget_held.Statement.{statement}
 use Rattle.queue.proofs.held_press.forget_held.Tie as tie
 
@@ -15,11 +13,7 @@ same-length : tie.Need-same-length
 same-length c = search needs
 
 returns : tie.Need-returns
-returns c =
-    let put = c .before .before in
-    let known = put .before .before in
-    let start = known .before in
-    held-set (start .args .session .now) (λ i. omega (arith, known .slice-known .given i)) (start .pre) none tt (put .put-no-held .ensures) refl
+returns c x at b bytes area behind put = held-forgotten x bytes area at b behind put (c .before .before .put-no-held .ensures) refl
 
 pub forget-held-spec : {M : Type 1} → statement M
 forget-held-spec = tie.close (tie.spec put-no-held-requires same-length returns)

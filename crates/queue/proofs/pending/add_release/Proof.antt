@@ -4,7 +4,7 @@ use mathlib.Core.Path.{refl}
 use native.Mathlib.Omega.{arith}
 use borrow.Author.Needs.{needs}
 use Rattle.session.specs.Session.{release}
-use Rattle.session.specs.Types.{asInfo}
+use Rattle.session.specs.InBlock.{infoIn}
 use Rattle.queue.proofs.pending.NewEntry.{opened, release-fits}
 use Rattle.queue.proofs.pending.add_release.Statement.{statement}
 use Rattle.queue.proofs.pending.add_release.Tie as tie
@@ -12,8 +12,8 @@ use Rattle.queue.proofs.pending.add_release.Tie as tie
 header-at-requires : tie.Need-header-at-requires
 header-at-requires c κs = search needs
 
-cast-t7 : tie.Need-cast-t7
-cast-t7 c = search needs
+cast-t8 : tie.Need-cast-t8
+cast-t8 c = search needs
 
 next-place-requires : tie.Need-next-place-requires
 next-place-requires c κs = search needs
@@ -32,9 +32,9 @@ returns c =
     let counted = c .before .before in
     let put = counted .before .before .before .before in
     let head = put .before .before .before .before in
-    let start = head .before .before .before in
+    let start = head .before .before .before .before in
     let a = start .args in
-    opened (a .session .now) (λ i. omega (arith, head .before .before .slice-known .given i)) (start .pre .0) (release (asInfo (a .n))) (release-fits (asInfo (a .n)) (start .pre .2)) (put .put-release .ensures) (counted .count-one .ensures)
+    opened (a .session .now) (λ i. omega (arith, head .before .before .before .slice-known .given i)) (start .pre .0) (release (infoIn (a .block .now) (a .n))) (release-fits (infoIn (a .block .now) (a .n)) (start .pre .2)) (put .put-release .ensures) (counted .count-one .ensures)
     (head .header-at .ensures .2) (head .header-at .ensures .0) (put .before .next-place .ensures) refl refl
 
 pub add-release-spec : {M : Type 1} → statement M
@@ -42,7 +42,7 @@ add-release-spec =
     tie.close
     (tie.spec
     header-at-requires
-    cast-t7
+    cast-t8
     next-place-requires
     put-release-requires
     count-one-requires

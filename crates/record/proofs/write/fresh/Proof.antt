@@ -3,7 +3,7 @@
 use mathlib.Core.Path.{refl}
 use native.Mathlib.Omega.{arith}
 use borrow.Author.Needs.{needs}
-use Rattle.record.proofs.write.FreshArea.{other-size, right-size}
+use Rattle.record.proofs.write.Zeros.{other-size, right-size}
 use Rattle.record.proofs.write.fresh.Statement.{statement}
 use Rattle.record.proofs.write.fresh.Tie as tie
 

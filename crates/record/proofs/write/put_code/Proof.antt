@@ -2,7 +2,7 @@
 -- Assumes nothing.
 use mathlib.Core.Path.{refl}
 use borrow.Author.Needs.{needs}
-use Rattle.record.proofs.write.Events.{code-written}
+use Rattle.record.proofs.write.Marks.{code-written}
 use Rattle.record.proofs.write.put_code.Statement.{statement}
 use Rattle.record.proofs.write.put_code.Tie as tie
 

@@ -1,8 +1,7 @@
 -- `record::write::put_flag` meets its contract.
 -- Assumes nothing.
 use borrow.Author.Needs.{needs}
-use Rattle.record.proofs.write.Keys.{flag-put}
-use Rattle.record.proofs.write.Parts.{written-as}
+use Rattle.record.proofs.Written.{flag-put, written-as}
 use Rattle.record.proofs.write.put_flag.Statement.{statement}
 use Rattle.record.proofs.write.put_flag.Tie as tie
 

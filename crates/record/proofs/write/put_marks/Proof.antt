@@ -2,7 +2,7 @@
 -- Assumes nothing.
 use mathlib.Core.Path.{refl}
 use borrow.Author.Needs.{needs}
-use Rattle.record.proofs.write.Events.{marks-written}
+use Rattle.record.proofs.write.Marks.{marks-written}
 use Rattle.record.proofs.write.put_marks.Statement.{statement}
 use Rattle.record.proofs.write.put_marks.Tie as tie
 

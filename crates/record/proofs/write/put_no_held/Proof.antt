@@ -2,7 +2,7 @@
 -- Assumes nothing.
 use mathlib.Core.Path.{refl}
 use borrow.Author.Needs.{needs}
-use Rattle.record.proofs.write.Held.{none-written}
+use Rattle.record.proofs.write.Zeros.{none-written}
 use Rattle.record.proofs.write.put_no_held.Statement.{statement}
 use Rattle.record.proofs.write.put_no_held.Tie as tie
 

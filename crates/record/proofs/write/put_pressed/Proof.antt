@@ -2,7 +2,7 @@
 -- Assumes nothing.
 use mathlib.Core.Path.{refl}
 use borrow.Author.Needs.{needs}
-use Rattle.record.proofs.write.Records.{pressed-written}
+use Rattle.record.proofs.write.Entries.{pressed-written}
 use Rattle.record.proofs.write.put_pressed.Statement.{statement}
 use Rattle.record.proofs.write.put_pressed.Tie as tie
 

@@ -1,0 +1,4 @@
+pub mod Kept
+pub mod Keys
+mod Events
+pub mod Units
