@@ -25,7 +25,7 @@ const KEY_ZEROS: usize = TEXT_MOST - KEY_TEXT_MOST;
 
 // From one area to the other.
 pub fn copy_key(src: &[u8], from: usize, dst: &mut [u8], to: usize)
-    requires { ⌜ (from + 32 ≤ length (now src)) × (fullKey KEY-TEXT-MOST .ok (drop from (now src)) ≡ true) × (to + 56 ≤ length (now dst)) ⌝ }
+    requires { ⌜ (from + (8 + KEY-TEXT-MOST) ≤ length (now src)) × (fullKey KEY-TEXT-MOST .ok (drop from (now src)) ≡ true) × (to + (8 + TEXT-MOST) ≤ length (now dst)) ⌝ }
     ensures { λ _. ⌜ now (dst .exit) ≡ splice to (fullKey TEXT-MOST .put (fullKey KEY-TEXT-MOST .get (drop from (now (src .entry))))) (now (dst .entry)) ⌝ }
 {
     area::span::copy_part(src, from, dst, to, KEY_SIZE);
@@ -34,7 +34,7 @@ pub fn copy_key(src: &[u8], from: usize, dst: &mut [u8], to: usize)
 
 // Within one area, up by the gap.
 pub fn move_key(s: &mut [u8], from: usize, gap: usize)
-    requires { ⌜ (from + gap + 56 ≤ length (now s)) × (fullKey KEY-TEXT-MOST .ok (drop from (now s)) ≡ true) ⌝ }
+    requires { ⌜ (from + gap + (8 + TEXT-MOST) ≤ length (now s)) × (fullKey KEY-TEXT-MOST .ok (drop from (now s)) ≡ true) ⌝ }
     ensures { λ _. ⌜ now (s .exit) ≡ splice (from + gap) (fullKey TEXT-MOST .put (fullKey KEY-TEXT-MOST .get (drop from (now (s .entry))))) (now (s .entry)) ⌝ }
 {
     area::span::move_up(s, from, gap, KEY_SIZE);
@@ -47,7 +47,7 @@ const TEXT_SIZE: usize = 1 + TEXT_MOST;
 
 // No text, the marks, no text with all modifiers.
 fn put_no_texts(s: &mut [u8], at: usize, l: KeyLocation, st: ElementState, repeat: bool)
-    requires { ⌜ at + 102 ≤ length (now s) ⌝ }
+    requires { ⌜ at + (2 * (1 + TEXT-MOST) + 4) ≤ length (now s) ⌝ }
     ensures { λ _. ⌜ now (s .exit) ≡ splice at (pair optText (pair (pair location (pair state (pair flag flag))) optText) .put (none, ((l, (st, (repeat, false))), none))) (now (s .entry)) ⌝ }
 {
     area::span::put_zeros(s, at, TEXT_SIZE);

@@ -9,15 +9,13 @@ use lib.ListN.{length}
 use Rattle.area.specs.Pick.{pick}
 use Rattle.keys.specs.Text.{FullKey, character, unidentified, textFrom}
 use Rattle.keys.specs.declared.NativeKeyCode.the-variants.{Windows}
-use Rattle.lookup.specs.Codes.{keyCodeOf}
 use Rattle.lookup.specs.Layout.{partOf, keyIn}
 use Rattle.lookup.specs.declared.keyboard_layout.LayoutKey.{LayoutKey}
 use Rattle.session.specs.Limits.{TEXT-MOST, KEY-TEXT-MOST}
 use Rattle.session.specs.Event.{Event, Info, Held}
 use Rattle.session.specs.Session.{fullKeyFits}
 use Rattle.session.specs.Area.{bytesOf}
-use Rattle.session.specs.Builder.{undead, typedText}
-use Rattle.session.specs.declared.ElementState.the-variants.{Pressed}
+use Rattle.session.specs.Builder.{undead, typedText, finalize}
 use Rattle.session.specs.declared.PartialKeyEventInfo.{PartialKeyEventInfo}
 use Rattle.session.specs.declared.KeyEvent.{KeyEvent}
 use Rattle.session.specs.declared.LastText.{LastText}
@@ -25,6 +23,7 @@ use Rattle.session.specs.declared.LastText.the-variants.{Typed, Layout}
 use Rattle.session.specs.declared.LastKey.{LastKey}
 use Rattle.session.specs.declared.LastKey.the-variants as last
 
+-- what is kept of a press or a release: its key without modifiers is written as its character where it is dead (SCOPE 3.16)
 unfoldable pub infoIn : List ℕ → PartialKeyEventInfo → Info
 infoIn block n =
     record {
@@ -35,9 +34,11 @@ infoIn block n =
       keyWithoutModifiers = undead (keyIn block (n .«key_without_modifiers»));
     }
 
+-- SCOPE 3.16: a dead key without modifiers becomes its character, but stays dead in a focus event
 unfoldable pub plainIn : List ℕ → Bool → LayoutKey → FullKey
 plainIn block dead k = pick dead (keyIn block k) (undead (keyIn block k))
 
+-- an event: both texts are what the logical key gives, or none (SCOPE 3.6, 3.12)
 unfoldable pub eventIn : List ℕ → KeyEvent → Event
 eventIn block e =
     record {
@@ -68,7 +69,7 @@ pub record EventIn (block : List ℕ) (e : KeyEvent) : Type 0 where
 
 -- ---- what completes a held press
 
--- its text, where its units are us
+-- SCOPE 3.11, its text, where its units are us: theirs, or what a key of the layout gives
 unfoldable pub lastIn : List ℕ → List ℕ → LastText → Option (List ℕ)
 lastIn block us Typed = typedText us
 lastIn block us (Layout k t) = textFrom (partOf block k) t
@@ -77,23 +78,28 @@ abbrev pub LastFits : List ℕ → LastText → Type 0
 LastFits block Typed = Unit {0}
 LastFits block (Layout k t) = length (bytesOf (textFrom (partOf block k) t)) ≤ TEXT-MOST
 
--- its logical key, where its text is t
+-- SCOPE 3.6, 3.13, its logical key, where its text is t
 unfoldable pub lastKey : LastKey → Info → Option (List ℕ) → FullKey
 lastKey last.Held n t = n .logicalKey
 lastKey last.Unidentified n t = unidentified (Windows (n .scancode))
 lastKey last.Text n t = character (bytesOf t)
 
--- its event, with that key and text
-unfoldable pub completedWith : Held → FullKey → Option (List ℕ) → Event
-completedWith h key t =
+-- the press, with its logical key decided
+abbrev pub decided : Held → FullKey → Held
+decided h key =
     record {
-      physicalKey = keyCodeOf (h .info .scancode);
-      logicalKey = key;
-      text = t;
-      location = h .info .location;
-      state = Pressed;
-      repeat = h .info .repeat;
-      synthetic = false;
-      textWithAllModifiers = typedText (h .units);
-      keyWithoutModifiers = h .info .keyWithoutModifiers;
+      info = record {
+        scancode = h .info .scancode;
+        repeat = h .info .repeat;
+        location = h .info .location;
+        logicalKey = key;
+        keyWithoutModifiers = h .info .keyWithoutModifiers;
+      };
+      vkey = h .vkey;
+      mark = false;
+      units = h .units;
     }
+
+-- its event, with that key and text. SCOPE 3.12: the text with all modifiers is the typed units'
+unfoldable pub completedWith : Held → FullKey → Option (List ℕ) → Event
+completedWith h key t = finalize (decided h key) false t (typedText (h .units))

@@ -48,7 +48,7 @@ pub fn put_text(src: &[u8], from: usize, n: usize, dst: &mut [u8], at: usize) ->
         let step = utf16_step(src, from, n, i);
         match step {
             Step::Bad => {
-                return 0;
+                return 0; // a surrogate stands alone
             }
             Step::Scalar(c, k) => {
                 to = crate::put_scalar(dst, to, c);

@@ -50,7 +50,7 @@ pub event-of-parts :
     (h : Held) (k : FullKey) (t : Option (List ℕ)) →
     event .put (completedWith h k t)
     ≡ keyCode .put (keyCodeOf (h .info .scancode)) ++ (fullKey TEXT-MOST .put k ++ (optText .put t ++ restOf h))
-unfolding event via pair completedWith restOf
+unfolding event via pair completedWith finalize restOf
 event-of-parts h k t =
     ap (λ (r : List ℕ). keyCode .put (keyCodeOf (h .info .scancode)) ++ (fullKey TEXT-MOST .put k ++ (optText .put t ++ r)))
     (sym (marks-first (pair optText (fullKey KEY-TEXT-MOST)) (h .info .location) Pressed (h .info .repeat) false (typedText (h .units), h .info .keyWithoutModifiers)))
