@@ -10,7 +10,7 @@ fn text(codes: &[u32]) -> String {
   codes.iter().map(|c| char::from_u32(*c).unwrap()).collect()
 }
 
-/// Unicode's own test, as crates/graphemes has it: the texts, and the same with their marks.
+/// Unicode's own test, as crates/graphemes has it: the texts, and the same with their marks, behind them how many there are.
 #[test]
 fn unicode_s_break_test() {
   let table = unicode();
@@ -19,7 +19,8 @@ fn unicode_s_break_test() {
     fs::read_to_string(Path::new(env!("CARGO_MANIFEST_DIR")).join("../../crates/graphemes").join(name)).unwrap()
   };
   let (plain, marked) = (read("stdin"), read("stdout"));
-  assert_eq!((plain.lines().count(), marked.lines().count()), (602, 602));
+  assert_eq!((plain.lines().count(), marked.lines().count()), (602, 603));
+  assert_eq!(marked.lines().last(), Some("602 texts, several_pieces agrees"));
   let mut reached = BTreeSet::new();
   for (plain, marked) in plain.lines().zip(marked.lines()) {
     let codes: Vec<u32> = plain.split(' ').map(|c| u32::from_str_radix(c, 16).unwrap()).collect();
