@@ -7,8 +7,8 @@
 //
 // It prints how many calls passed and events were handed out, added up, and how many entries the queue is left with; of f and g how
 // many rounds read what they had written.
+use event::peeked::Peeked;
 use lookup::block::HEAD;
-use message::peeked::Peeked;
 use session::AREA_SIZE;
 use session::COUNT_AT;
 use session::ENTRIES_AT;

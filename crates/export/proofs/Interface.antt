@@ -24,8 +24,8 @@ use Rattle.session.specs.Questions.{isHeld}
 use Rattle.session.specs.Answers.{Outcome, refused, answered, outcomeOf, Said, Left, leftBy, resultBy, zeroResult, openOf, finishOf}
 use Rattle.session.specs.declared.ProcResult.{ProcResult}
 use Rattle.session.specs.declared.ProcResult.the-variants.{DefWindowProc, Value}
-use Rattle.message.specs.Peeked.{asPeeked}
-use Rattle.message.specs.declared.peeked.Peeked.the-variants as p
+use Rattle.event.specs.Peeked.{asPeeked}
+use Rattle.event.specs.declared.peeked.Peeked.the-variants as p
 use Rattle.message.specs.Calls.{left}
 use Rattle.export.specs.Numbers.{NONE, refusalOf, tokenNumber, changed, changeOf}
 use Rattle.export.specs.Events.{isAnswer, eventAt, fieldsLeft, textAt, textLeft}

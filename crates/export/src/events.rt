@@ -93,7 +93,7 @@ fn is_event(answers: &[u8], i: u32) -> bool
         return false;
     }
     let at = ANSWER_EVENTS_AT + ANSWER_EVENT_SIZE * (i as usize);
-    record::check::event_ok(&answers[at..])
+    questions::check::event_ok(&answers[at..])
 }
 
 // ---- an event

@@ -14,11 +14,11 @@ ghost use Rattle.session.specs.Limits.{AREA};
 ghost use Rattle.session.specs.Session.{freshSession};
 ghost use Rattle.session.specs.declared.ProcResult.{ProcResult};
 ghost use Rattle.message.specs.Calls.{inputs, message};
-ghost use Rattle.message.specs.Peeked.{asPeeked};
+ghost use Rattle.event.specs.Peeked.{asPeeked};
 ghost use Rattle.export.specs.Events.{eventAt, fieldsLeft, textAt, textLeft};
 ghost use Rattle.export.specs.Interface.{INTERFACE, OpenSays, FinishSays, peekedAs, countOf};
 use crate::numbers::NONE;
-use message::peeked::Peeked;
+use event::peeked::Peeked;
 use session::PendingMessageToken;
 use session::ProcResult;
 

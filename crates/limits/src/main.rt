@@ -17,6 +17,7 @@
 //
 // Numbers are hexadecimal; what is printed is decimal.
 ghost use Prim.Native.Nat.{_≤_};
+use event::peeked::Peeked;
 use libc::STDIN_FILENO;
 use lines::Message;
 use lines::behind;
@@ -24,7 +25,6 @@ use lines::find;
 use lines::message_at;
 use lines::number_at;
 use lines::part;
-use message::peeked::Peeked;
 use session::AREA_SIZE;
 use session::PendingMessageToken;
 use session::ProcResult;

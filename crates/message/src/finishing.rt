@@ -21,10 +21,10 @@ ghost use Rattle.queue.specs.Changed.{Does};
 ghost use Rattle.queue.specs.Completing.{heldIn, Completing};
 ghost use Rattle.queue.specs.Room.{IsArea};
 ghost use Rattle.queue.specs.Stands.{EventStands};
-ghost use Rattle.message.specs.Peeked.{asPeeked};
+ghost use Rattle.event.specs.Peeked.{asPeeked};
 ghost use Rattle.message.specs.Resolves.{EntryAt, finishedBy};
 ghost use Rattle.message.specs.TextField.{textField};
-use crate::peeked::Peeked;
+use event::peeked::Peeked;
 use queue::held_event::TEXT_AT;
 use record::read::Pending;
 use session::ANSWER_EVENTS_AT;
@@ -57,13 +57,13 @@ fn finish_press(
     let logical = n.logical_key;
     let key = logical.key;
     let mark = event::partial::press_mark(state, key);
-    if crate::peeked::holds(peeked) {
+    if event::peeked::holds(peeked) {
         queue::held_press::set_held(session, block, n, p.vkey, mark);
         queue::event_queue::remove_pending(session, answers, place, token);
         return;
     }
     queue::held_press::forget_held(session);
-    if crate::peeked::is_fake(block, key, peeked) {
+    if event::peeked::is_fake(block, key, peeked) {
         queue::event_queue::remove_pending(session, answers, place, token);
         return;
     }
@@ -90,7 +90,7 @@ fn finish_release(
 {
     let at = ENTRIES_AT + ENTRY_SIZE * place + 9;
     let key = record::read::bare_key_at(&session[at..]);
-    if crate::peeked::is_fake(block, key, peeked) { // by the finish's AltGr flag
+    if event::peeked::is_fake(block, key, peeked) { // by the finish's AltGr flag
         queue::event_queue::remove_pending(session, answers, place, token);
         return;
     }
@@ -151,7 +151,7 @@ fn finish_character(
     ensures { λ _. ⌜ Does (finishedBy (decode (now (session .entry))) (keyboardAt (now (state .entry)) (now (block .entry))) (tableOf (now (table .entry))) (token .0) (asPeeked peeked)) (now (session .exit)) (now (answers .exit)) ⌝ }
 {
     let head = record::read::header_at(session);
-    if crate::peeked::completes(head.held, peeked) {
+    if event::peeked::completes(head.held, peeked) {
         put_last(session, answers, state, block, table, place);
         queue::held_press::forget_held(session);
         queue::event_queue::complete_pending(session, answers, place, token);

@@ -2,18 +2,15 @@
 // clause of docs/SCOPE.md).
 mod finishing;
 mod opening;
-pub mod peeked;
 pub mod process_message;
-mod questions;
-mod sorts;
 
 ghost use mathlib.Core.Path.{_≡_};
 ghost use Rattle.session.specs.Answers.{openOf, finishOf, openSaid, finishSaid};
 ghost use Rattle.session.specs.declared.ProcResult.{ProcResult};
 ghost use Rattle.message.specs.Calls.{inputs, message, left};
-ghost use Rattle.message.specs.Peeked.{asPeeked};
-use crate::peeked::Peeked;
-use crate::questions::Asked;
+ghost use Rattle.event.specs.Peeked.{asPeeked};
+use event::peeked::Peeked;
+use questions::Asked;
 use session::FinishAnswer;
 use session::OpenAnswer;
 use session::PendingMessageToken;
@@ -46,12 +43,12 @@ pub fn open(
 ) -> Opened
     ensures { λ r. ⌜ left (openSaid (r .answer)) (r .result) (now (session .exit)) (now (answers .exit)) ≡ openOf (now (session .entry)) (now (answers .entry)) result (inputs (now (state .entry)) (now (block .entry)) (now (table .entry))) (message kind wparam lparam) ⌝ }
 {
-    let early = crate::questions::ask_areas(session, answers, state, block, table);
+    let early = questions::ask_areas(session, answers, state, block, table);
     if let Asked::Failed(no) = early {
         return answered(OpenAnswer::Refused(no), result); // 1 to 3, 11, 4
     }
-    let sort = crate::sorts::sort_of(kind, wparam, lparam);
-    let late = crate::questions::ask_message(session, state, block, sort, wparam);
+    let sort = questions::sorts::sort_of(kind, wparam, lparam);
+    let late = questions::ask_message(session, state, block, sort, wparam);
     if let Asked::Failed(no) = late {
         return answered(OpenAnswer::Refused(no), result); // 5 to 9
     }
@@ -73,11 +70,11 @@ pub fn finish(
 ) -> FinishAnswer
     ensures { λ r. ⌜ ((result : ProcResult) → left (finishSaid r) result (now (session .exit)) (now (answers .exit)) ≡ finishOf (now (session .entry)) (now (answers .entry)) result (inputs (now (state .entry)) (now (block .entry)) (now (table .entry))) (token .0) (asPeeked peeked)) ⌝ }
 {
-    let early = crate::questions::ask_areas(session, answers, state, block, table);
+    let early = questions::ask_areas(session, answers, state, block, table);
     if let Asked::Failed(no) = early {
         return FinishAnswer::Refused(no);
     }
-    let late = crate::questions::ask_finish(session, token);
+    let late = questions::ask_finish(session, token);
     if let Asked::Failed(no) = late {
         return FinishAnswer::Refused(no);
     }

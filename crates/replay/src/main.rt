@@ -1,5 +1,5 @@
 // Replays calls with tao's own answers (data/calls, whose form oracle/README.md describes), and says where an answer is another.
-use message::peeked::Peeked;
+use event::peeked::Peeked;
 use session::ANSWER_EVENT_SIZE;
 use session::AREA_SIZE;
 use session::COUNT_AT;

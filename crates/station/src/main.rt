@@ -10,6 +10,7 @@
 //   card               shows the digits since the last card
 //
 // Numbers are hexadecimal. The break table of all calls is unicode.breaks, Unicode 15.0's.
+use event::peeked::Peeked;
 use libc::STDIN_FILENO;
 use lines::Message;
 use lines::behind;
@@ -17,7 +18,6 @@ use lines::find;
 use lines::message_at;
 use lines::number_at;
 use lines::part;
-use message::peeked::Peeked;
 use session::ANSWER_EVENT_SIZE;
 use session::ANSWER_EVENTS_AT;
 use session::AREA_SIZE;

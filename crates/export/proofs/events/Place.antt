@@ -12,7 +12,7 @@ use Rattle.area.specs.Bytes.{num}
 use Rattle.area.proofs.Splice.{part-rest}
 use Rattle.session.specs.Limits.{AREA, ENTRIES-MOST, ANSWER-EVENT-SIZE}
 use Rattle.session.specs.Area.{event}
-use Rattle.record.proofs.check.Tests.{stop, next, stop-by, next-by, cut}
+use Rattle.questions.proofs.check.Tests.{stop, next, stop-by, next-by, cut}
 use Rattle.export.specs.Events.{isAnswer, isEvent, place}
 
 -- ---- the area

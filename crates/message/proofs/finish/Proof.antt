@@ -6,9 +6,10 @@ use Rattle.session.specs.Area.{decode}
 use Rattle.segmentation.specs.Layout.{tableOf}
 use Rattle.event.specs.Written.{keyboardAt}
 use Rattle.queue.specs.Changed.{Does}
-use Rattle.message.specs.Peeked.{asPeeked}
+use Rattle.event.specs.Peeked.{asPeeked}
 use Rattle.message.specs.Resolves.{finishedBy}
-use Rattle.message.proofs.CallAnswers.{asked-area, asked-answers, asked-block, asked-table, told-done, finish-early, finish-late, finish-passed}
+use Rattle.questions.proofs.Outcome.{asked-area, asked-answers, asked-block, asked-table}
+use Rattle.message.proofs.CallAnswers.{told-done, finish-early, finish-late, finish-passed}
 use Rattle.message.proofs.finish.Statement.{statement}
 use Rattle.message.proofs.finish.Tie as tie
 

@@ -24,9 +24,9 @@ use Rattle.event.specs.Written.{keyboardAt}
 use Rattle.queue.specs.Changed.{Does, holding, resolvedBy}
 use Rattle.queue.specs.Place.{StandsAt}
 use Rattle.queue.proofs.Areas.{AreaOf}
-use Rattle.message.specs.Peeked.{asPeeked}
+use Rattle.event.specs.Peeked.{asPeeked}
 use Rattle.message.specs.Resolves.{finishedBy}
-use Rattle.message.specs.declared.peeked.Peeked.{Peeked}
+use Rattle.event.specs.declared.peeked.Peeked.{Peeked}
 
 -- ---- what was asked of the message q, told of the peeked one, which it is
 

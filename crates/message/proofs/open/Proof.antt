@@ -6,10 +6,11 @@ use borrow.Author.Needs.{needs}
 use Rattle.session.specs.Area.{decode}
 use Rattle.session.specs.Questions.{firstNo, messageQuestions}
 use Rattle.event.specs.Written.{keyboardAt}
-use Rattle.message.specs.Asked.{asNo}
-use Rattle.message.specs.Sorts.{asSort}
+use Rattle.questions.specs.Asked.{asNo}
+use Rattle.questions.specs.Sorts.{asSort}
 use Rattle.message.specs.Calls.{message}
-use Rattle.message.proofs.CallAnswers.{asked-area, asked-answers, asked-block, asked-passes, told-asked, open-early, open-late, open-passed}
+use Rattle.questions.proofs.Outcome.{asked-area, asked-answers, asked-block}
+use Rattle.message.proofs.CallAnswers.{asked-passes, told-asked, open-early, open-late, open-passed}
 use Rattle.message.proofs.open.Statement.{statement}
 use Rattle.message.proofs.open.Tie as tie
 

@@ -17,9 +17,9 @@ use Rattle.session.specs.declared.OpenAnswer.{OpenAnswer}
 use Rattle.session.proofs.Laws.{press-effect, release-effect, char-effect, dead-effect, focus-effect, ignored-effect}
 use Rattle.queue.specs.Room.{IsArea}
 use Rattle.queue.proofs.Areas.{own-area}
-use Rattle.message.specs.Sorts.{asSort}
-use Rattle.message.specs.declared.sorts.MessageSort.{MessageSort}
-use Rattle.message.specs.declared.sorts.MessageSort.the-variants as sort
+use Rattle.questions.specs.Sorts.{asSort}
+use Rattle.questions.specs.declared.sorts.MessageSort.{MessageSort}
+use Rattle.questions.specs.declared.sorts.MessageSort.the-variants as sort
 use Rattle.message.specs.Gives.{Gives}
 
 -- what was opened or answered, asked of this very message: w and l are its parameters

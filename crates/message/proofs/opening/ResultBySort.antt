@@ -10,9 +10,9 @@ use Rattle.session.specs.Answers.{resultBy, zeroResult}
 use Rattle.session.specs.declared.ElementState.{ElementState}
 use Rattle.session.specs.declared.ProcResult.{ProcResult}
 use Rattle.session.specs.declared.ProcResult.the-variants.{DefWindowProc, Value}
-use Rattle.message.specs.Sorts.{asSort}
-use Rattle.message.specs.declared.sorts.MessageSort.{MessageSort}
-use Rattle.message.specs.declared.sorts.MessageSort.the-variants as sort
+use Rattle.questions.specs.Sorts.{asSort}
+use Rattle.questions.specs.declared.sorts.MessageSort.{MessageSort}
+use Rattle.questions.specs.declared.sorts.MessageSort.the-variants as sort
 
 module _ (k : MessageSort) (s : Session) (m : Message) (r : ProcResult) where
   pub of-sys-press : k ≡ sort.KeyDown → m .kind ≡ WM-SYSKEYDOWN → DefWindowProc ≡ resultBy (asSort k) s m r

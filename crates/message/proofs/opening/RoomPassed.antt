@@ -20,9 +20,9 @@ use Rattle.session.specs.Focus.{focusEvents}
 use Rattle.session.specs.Questions.{isHeld, behindSome, newEntries, unitsAfter, question5, question7, question8, question9}
 use Rattle.session.specs.declared.ElementState.{ElementState}
 use Rattle.queue.specs.Room.{IsArea, HasRoom}
-use Rattle.message.specs.Sorts.{asSort}
-use Rattle.message.specs.declared.sorts.MessageSort.{MessageSort}
-use Rattle.message.specs.declared.sorts.MessageSort.the-variants as sort
+use Rattle.questions.specs.Sorts.{asSort}
+use Rattle.questions.specs.declared.sorts.MessageSort.{MessageSort}
+use Rattle.questions.specs.declared.sorts.MessageSort.the-variants as sort
 use Rattle.message.specs.Gives.{MayChar, FitBehind}
 use Rattle.message.specs.Passes.{Passes}
 

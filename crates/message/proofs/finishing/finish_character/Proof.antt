@@ -28,7 +28,7 @@ use Rattle.queue.proofs.HeldPress.{held-there, held-passes, held-fits, forgotte
 use Rattle.queue.proofs.Standing.{ready, same-lengths}
 use Rattle.event.specs.Written.{keyboardAt}
 use Rattle.event.proofs.focus.Keyboard.{keyboard-at-ok}
-use Rattle.message.specs.Peeked.{asPeeked}
+use Rattle.event.specs.Peeked.{asPeeked}
 use Rattle.message.proofs.finishing.WaitingEntry.{few, character-waits}
 use Rattle.message.proofs.finishing.FinishEffect.{told-completes, held-and-last, char-dropped, char-done, same-place, finished}
 use Rattle.message.proofs.finishing.finish_character.Statement.{statement}

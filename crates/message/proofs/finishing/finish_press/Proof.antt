@@ -22,7 +22,7 @@ use Rattle.queue.proofs.HeldPress.{forgotten, forgot-plainly}
 use Rattle.queue.proofs.Standing.{ready}
 use Rattle.event.specs.Written.{keyboardAt}
 use Rattle.event.proofs.focus.Keyboard.{keyboard-at-ok}
-use Rattle.message.specs.Peeked.{asPeeked}
+use Rattle.event.specs.Peeked.{asPeeked}
 use Rattle.message.proofs.finishing.WaitingEntry.{few, press-reads, press-waits, press-range}
 use Rattle.message.proofs.finishing.FinishEffect.{pressOf, key-of, told-holds, told-fake, told-held, new-within, press-held, press-fake, press-done, same-place, finished}
 use Rattle.message.proofs.finishing.finish_press.Statement.{statement}

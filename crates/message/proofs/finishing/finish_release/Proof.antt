@@ -1,6 +1,6 @@
 -- `message::finishing::finish_release` meets its contract.
 -- Assumes nothing.
-use mathlib.Core.Path.{_≡_, refl, ap, _∙_}
+use mathlib.Core.Path.{_≡_, refl}
 use mathlib.Core.Bool.{true, false}
 use mathlib.Core.Option.{some}
 use Prim.Native.Nat.{ℕ, _+_, _*_, _≤_, _<_}
@@ -19,7 +19,7 @@ use Rattle.record.specs.declared.read.Pending.the-variants as case
 use Rattle.queue.proofs.Areas.{AreaOf, own-area}
 use Rattle.queue.proofs.Standing.{ready}
 use Rattle.event.specs.Written.{keyboardAt}
-use Rattle.message.specs.Peeked.{asPeeked}
+use Rattle.event.specs.Peeked.{asPeeked}
 use Rattle.message.proofs.finishing.WaitingEntry.{few, infoAt, release-passes, release-waits, key-reads, key-read, release-range}
 use Rattle.message.proofs.finishing.FinishEffect.{told-fake, release-fake, release-done, finished}
 use Rattle.message.proofs.finishing.finish_release.Statement.{statement}

@@ -1,2 +1,0 @@
-mod QuestionLadder
-mod AsksBySort

@@ -1,0 +1,3 @@
+mod QuestionLadder
+mod AsksBySort
+pub mod Outcome

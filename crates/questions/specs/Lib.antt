@@ -1,0 +1,3 @@
+pub mod Order
+pub mod Sorts
+pub mod Asked
