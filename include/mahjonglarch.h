@@ -19,7 +19,8 @@
  *  3. Take the events of each answered call, and only of those, before the answer area is lent again. An event is handed out once.
  *  4. Read the key state anew for each half of a message (for kind 7 the asynchronous one, below), and bring the block of the layout in force
  *     and the break table.
- *  5. Finish the latest message first, with what PeekMessageW showed behind it; where it showed nothing, `peeked` is 0.
+ *  5. Finish the latest message first, with what PeekMessageW showed behind it, whatever it is; where it showed nothing, `peeked` is 0. A peeked
+ *     WM_QUIT counts as nothing.
  *  6. Take no text of a synthetic press: it was typed before, and it can come out before the typed one.
  *  7. Do with the message result what `result` says.
  *  8. Call TranslateMessage in the message loop, or no character ever comes.
@@ -246,8 +247,8 @@ uint32_t mahjonglarch_open(uint8_t *session, size_t session_len, uint8_t *answer
                            uint64_t lparam, uint32_t *token, uint32_t *result);
 
 /* Finishes the latest open message, whose token is given, with the message that was peeked, or with none where `peeked` is 0 (kind, wparam and
- * lparam are not looked at then): 0, or the refusal's number. Answered: `session` is the next session, and `answers` has the events. The message
- * result is not touched. */
+ * lparam are not looked at then): 0, or the refusal's number. A peeked WM_QUIT (kind 12) counts as none. Answered: `session` is the next session,
+ * and `answers` has the events. The message result is not touched. */
 uint32_t mahjonglarch_finish(uint8_t *session, size_t session_len, uint8_t *answers, size_t answers_len, const uint8_t *state, size_t state_len,
                              const uint8_t *block, size_t block_len, const uint8_t *table, size_t table_len, uint32_t token, uint32_t peeked,
                              uint32_t kind, uint64_t wparam, uint64_t lparam);

@@ -4,7 +4,7 @@ use areas::{
   break_table,
   session::{EntryState, Session},
 };
-use kbtypes::{BreakTable, Call, ElementState, Event, Key, Location, Native, KEY_NAMES};
+use kbtypes::{Body, BreakTable, Call, ElementState, Event, Key, Location, Native, KEY_NAMES};
 use std::fmt;
 
 macro_rules! cases {
@@ -19,6 +19,7 @@ macro_rules! cases {
 
 cases! {
   Scripts "scripts"
+  Quit "scripts with WM_QUIT peeked, which tao is given as nothing peeked"
   Calls "calls, closings included"
   Answered "answered"
   Refused "refused"
@@ -68,12 +69,15 @@ cases! {
   PressKey "finish of a press, a key message peeked"
   PressFake "finish of a press, fake"
   PressHeld "finish of a press, another kind peeked: held"
+  PressQuit "finish of a press, WM_QUIT peeked"
   PressForgets "finish of a press that forgets a held one"
   ReleaseDone "finish of a release, completed"
   ReleaseFake "finish of a release, fake"
+  ReleaseQuit "finish of a release, WM_QUIT peeked"
   CharacterMore "finish of a character, more coming"
   CharacterNone "finish of a character, no press held by then"
   CharacterDone "finish of a character, completed"
+  CharacterQuit "finish of a character, WM_QUIT peeked"
   ControlCounts "finish of a character, completed with Control"
   ControlAlt "finish of a character, completed with Control and Alt on an AltGr layout"
   Waits "a completed event waits behind an open message"
@@ -199,10 +203,14 @@ impl Counts {
     self.when(s.held.as_ref().is_some_and(|h| h.units.len() == 16), Case::MostUnits);
   }
 
-  /// An answered finish, with the session before it and behind it.
-  pub fn finished(&mut self, call: &Call, peeked: Option<Message>, before: &Session, behind: &Session, events: usize) {
+  /// An answered finish as tao is given it, whether WM_QUIT was peeked, and the session before it and behind it.
+  pub fn finished(&mut self, call: &Call, quit: bool, before: &Session, behind: &Session, events: usize) {
     let Some(at) = before.entries.iter().rposition(|e| e.is_open()) else { return };
     let entry = &before.entries[at];
+    let peeked = match call.body {
+      Body::Finish { peeked, .. } => peeked,
+      Body::Open { .. } => None,
+    };
     // completed: it is among the events, or its entry waits
     let waits = behind.entries.iter().any(|e| e.token == entry.token);
     let behind_it = before.entries.len() - 1 - at;
@@ -213,6 +221,7 @@ impl Counts {
     match entry.state {
       EntryState::Press { .. } => {
         self.when(before.held.is_some(), Case::PressForgets);
+        self.when(quit, Case::PressQuit);
         self.add(match (done, peeked.is_some(), key) {
           (true, false, _) => Case::PressAlone,
           (true, true, _) => Case::PressKey,
@@ -220,8 +229,12 @@ impl Counts {
           (false, _, false) => Case::PressHeld,
         });
       }
-      EntryState::Release(_) => self.add(if done { Case::ReleaseDone } else { Case::ReleaseFake }),
+      EntryState::Release(_) => {
+        self.when(quit, Case::ReleaseQuit);
+        self.add(if done { Case::ReleaseDone } else { Case::ReleaseFake });
+      }
       EntryState::Character => {
+        self.when(quit, Case::CharacterQuit);
         let more = peeked.is_some_and(|m| matches!(m.kind, 0x102 | 0x106));
         self.add(match (done, more) {
           (true, _) => Case::CharacterDone,

@@ -95,6 +95,8 @@ pub struct Machine {
   zeros: Vec<u8>,
   /// The session as the independent reading has it.
   now: Session,
+  /// Whether the script has an answered finish with WM_QUIT peeked.
+  quit: bool,
   steps: usize,
   calls: Vec<Call>,
   records: Vec<Record>,
@@ -123,6 +125,7 @@ impl Machine {
       answers_before: vec![0; AREA],
       zeros: vec![0; AREA],
       now: Session::fresh(),
+      quit: false,
       steps: 0,
       calls: vec![],
       records: vec![],
@@ -159,6 +162,7 @@ impl Machine {
     self.said.clear();
     forget_passing();
     self.now = Session::fresh();
+    self.quit = false;
     self.counts.add(Case::Scripts);
     let first = self.session.area_mut();
     first[0] = 1;
@@ -407,11 +411,12 @@ impl Machine {
       Body::Finish { peeked, .. } => kbtypes::Body::Finish { token: 0, peeked },
     };
     let (layout, table) = (layout.maps.clone(), table.ranges.clone());
-    let call = Call { body, state: step.state.clone(), layout, table };
+    let call = Call { body: body.for_tao(), state: step.state.clone(), layout, table };
+    self.quit |= body.sees_quit();
     match step.body {
       Body::Open(m) => self.counts.opened(&m, &self.now, &behind, opened.is_some(), n),
-      Body::Finish { peeked, .. } => {
-        self.counts.finished(&call, peeked, &self.now, &behind, n);
+      Body::Finish { .. } => {
+        self.counts.finished(&call, body.sees_quit(), &self.now, &behind, n);
         self.counts.pieces(&call, self.calls.last(), &self.now, &behind);
       }
     }
@@ -441,6 +446,9 @@ impl Machine {
   pub fn end(&mut self, like: &Step) -> Outcome<()> {
     self.close(like)?;
     self.guards()?;
+    if self.quit {
+      self.counts.add(Case::Quit);
+    }
     if !self.now.entries.is_empty() || self.now.handed != 0 {
       return self.differs("something waits although nothing is open");
     }

@@ -87,7 +87,7 @@ impl Session {
     })
   }
 
-  /// Finishes the latest open message with what was peeked. `answers` takes the events, which are lent. A refused call changes neither area:
+  /// Finishes the latest open message with what was peeked; a WM_QUIT counts as nothing. `answers` takes the events, which are lent. A refused call changes neither area:
   /// the message is still open, all that arrived behind it waits, and the token comes back. The latest one, refused with 1 to 3 or 11 and
   /// brought again with inputs in order, is answered, and everything comes out in order.
   pub fn finish<'a>(

@@ -1,4 +1,4 @@
-// What was peeked behind a message, and what it tells: whether a press is held, whether more characters are coming, whether a key is fake.
+// What was peeked behind a message, what of it counts, and what it tells: whether a press is held, whether more characters are coming, whether a key is fake.
 ghost use mathlib.Core.Bool.{true, not, _&&_};
 ghost use mathlib.Core.List.{List};
 ghost use mathlib.Core.Option.{some};
@@ -7,7 +7,7 @@ ghost use Prim.Native.Nat.{ℕ};
 ghost use Rattle.keys.specs.Text.{bareOf};
 ghost use Rattle.lookup.specs.Block.{blockOk};
 ghost use Rattle.session.specs.Builder.{fake};
-ghost use Rattle.session.specs.Calls.{holds, moreComing};
+ghost use Rattle.session.specs.Calls.{seen, holds, moreComing};
 ghost use Rattle.session.specs.Event.{Info};
 ghost use Rattle.event.specs.Written.{keyboardAt};
 ghost use Rattle.event.specs.Peeked.{asPeeked};
@@ -17,6 +17,21 @@ use keys::Key;
 pub enum Peeked {
     Nothing,
     Message(u32, u64, u64),
+}
+
+// SCOPE 3.17: what counts as peeked. PeekMessage hands out WM_QUIT (12) whatever the filter: it counts as nothing.
+pub fn seen(peeked: Peeked) -> Peeked
+    ensures { λ r. ⌜ asPeeked r ≡ seen (asPeeked peeked) ⌝ }
+{
+    match peeked {
+        Peeked::Nothing => Peeked::Nothing,
+        Peeked::Message(kind, wparam, lparam) => {
+            if kind == 0x12 {
+                return Peeked::Nothing; // it belongs to no key
+            }
+            Peeked::Message(kind, wparam, lparam)
+        }
+    }
 }
 
 // SCOPE 3.5: whether a kind that was peeked makes a press the held one: any but a press or a release.

@@ -33,7 +33,7 @@ use Rattle.lookup.specs.Location.{places, vkeyPlace, locationIn, extendedCode, 
 use Rattle.session.specs.Session.{Session, freshSession, openCount, rising, firstOpen, unitsWithin, inOrder, textFits, optTextFits, fullKeyFits, eventFits, infoFits, heldFits, waitFits, entryFits, entriesFit, isSession}
 use Rattle.session.specs.Builder.{Keyboard, keyboardOf, breakTableOf, layoutKey, plainKey, codeAsKey, forcedKey, undead, fromMessage, isCharacter, markOf, heldOf, withUnits, typedText, typedKey, finalize, pressEvent, deadCharEvent, controlCounts, lastText, severalText, charEvent, releaseEvent, isControl, fake}
 use Rattle.session.specs.Focus.{modifierKeys, isOther, othersFrom, focusKeys, focusKey, focusText, syntheticEvent, written, syntheticEvents, focusEvents}
-use Rattle.session.specs.Calls.{Effect, sortOf, opening, numbered, behind, charOpened, deadCharAnswered, messageEffect, holds, moreComing, finishEvent, finishHeld, findWait, inPlace, resolve, isFirst, drain, resolved, finishEffect, effectOf}
+use Rattle.session.specs.Calls.{Effect, sortOf, opening, numbered, behind, charOpened, deadCharAnswered, messageEffect, seen, holds, moreComing, finishEvent, finishHeld, findWait, inPlace, resolve, isFirst, drain, resolved, finishEffect, effectOf}
 use Rattle.session.specs.Questions.{opens, newEntries, unitsAfter, lastToken, question11, question5, question6, question7, question8, question9, question10, firstNo, messageQuestions, finishQuestions, sessionQuestions}
 use Rattle.session.specs.Answers.{resultBy}
 use Rattle.session.specs.Limits.{KEYS}
@@ -97,7 +97,7 @@ refusalOn s (finish b r t p) = firstNo ((11, tableOk r) ∷ finishQuestions s t)
 
 abbrev effectOn : Session → Step → Effect
 effectOn s (bring b r m) = messageEffect s b m (sortOf m)
-effectOn s (finish b r t p) = finishEffect s b (tableOf r) t p (findWait t (s .entries))
+effectOn s (finish b r t p) = finishEffect s b (tableOf r) t (seen p) (findWait t (s .entries))
 
 same-refusal : (s : Session) (x : Step) → Brought (keyboardIn x) → refusal s x ≡ refusalOn s x
 unfolding sessionQuestions question11
@@ -107,7 +107,7 @@ same-refusal s (finish b r t p) h = refl
 same-effect : (s : Session) (x : Step) → Brought (keyboardIn x) → effect s x ≡ effectOn s x
 unfolding effectOf breakTableOf
 same-effect s (bring b r m) h = ap (λ (k : Keyboard). messageEffect s k m (sortOf m)) (h .2 r)
-same-effect s (finish b r t p) h = ap (λ (k : Keyboard). finishEffect s k (tableOf r) t p (findWait t (s .entries))) (h .2 r)
+same-effect s (finish b r t p) h = ap (λ (k : Keyboard). finishEffect s k (tableOf r) t (seen p) (findWait t (s .entries))) (h .2 r)
 
 same-answers :
     (cs : List (Step × Answer)) (s : Session) → AllBrought cs → answersBy refusal effect s cs ≡ answersBy refusalOn effectOn s cs
@@ -136,7 +136,7 @@ allPass [] = true
 allPass (x ∷ xs) = boardsPass (x .calls) && allPass xs
 
 answers-computed : answersOn examples ≡ expectedOf examples
-unfolding assoc scalar encodeWith utf16Of utf8Of unitStep utf16Step table3-7 leadIn byLead utf8Step readFrom wellFormed scalarsIn textOf num every pictograph joiner indicators breakAt breaksAfter pieces propsIn propsOf piecesOf severalIn firstAt lastAt kindAt segment tableOf lastBefore afterLast endsAt knownAt rangeOk rangesOk tableOk charUnits toText nativeKind nativeValue codeNumber codeNative codeKey scanCodes keyCodeOf keyLParam exScancode exScancodeOf virtualKey down toggled anyDown numLockOn capsLockOn activeModifiers removeOnlyCtrl bitsOf find findCode listFor nonCharKey getKey scanCodeFor messageScancode vkeyFor places vkeyPlace locationIn extendedCode locationOf freshSession openCount layoutKey plainKey codeAsKey forcedKey undead fromMessage isCharacter markOf heldOf withUnits typedText typedKey finalize pressEvent deadCharEvent controlCounts lastText severalText charEvent releaseEvent isControl fake modifierKeys isOther othersFrom focusKeys focusKey focusText syntheticEvent written syntheticEvents focusEvents sortOf opening numbered behind charOpened deadCharAnswered messageEffect holds moreComing finishEvent finishHeld findWait inPlace resolve isFirst drain resolved finishEffect opens newEntries unitsAfter lastToken question5 question6 question7 question8 question9 question10 firstNo messageQuestions finishQuestions resultBy
+unfolding assoc scalar encodeWith utf16Of utf8Of unitStep utf16Step table3-7 leadIn byLead utf8Step readFrom wellFormed scalarsIn textOf num every pictograph joiner indicators breakAt breaksAfter pieces propsIn propsOf piecesOf severalIn firstAt lastAt kindAt segment tableOf lastBefore afterLast endsAt knownAt rangeOk rangesOk tableOk charUnits toText nativeKind nativeValue codeNumber codeNative codeKey scanCodes keyCodeOf keyLParam exScancode exScancodeOf virtualKey down toggled anyDown numLockOn capsLockOn activeModifiers removeOnlyCtrl bitsOf find findCode listFor nonCharKey getKey scanCodeFor messageScancode vkeyFor places vkeyPlace locationIn extendedCode locationOf freshSession openCount layoutKey plainKey codeAsKey forcedKey undead fromMessage isCharacter markOf heldOf withUnits typedText typedKey finalize pressEvent deadCharEvent controlCounts lastText severalText charEvent releaseEvent isControl fake modifierKeys isOther othersFrom focusKeys focusKey focusText syntheticEvent written syntheticEvents focusEvents sortOf opening numbered behind charOpened deadCharAnswered messageEffect seen holds moreComing finishEvent finishHeld findWait inPlace resolve isFirst drain resolved finishEffect opens newEntries unitsAfter lastToken question5 question6 question7 question8 question9 question10 firstNo messageQuestions finishQuestions resultBy
 answers-computed = refl
 
 starts-computed : startsPass examples ≡ true

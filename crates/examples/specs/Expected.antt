@@ -1,5 +1,6 @@
 -- Worked examples with tao 0.37.2's own answers, written by oracle/expected (oracle/README.md, not to be edited). Tokens are counted from
 -- tao's last empty queue. Calls that SCOPE 6 refuses were not given to tao: it panics there (5) or has no such limit or test (6 to 11).
+-- A finish with WM_QUIT peeked was given to it as one with nothing peeked (SCOPE 3.17).
 -- Assumes nothing.
 use Prim.Native.Nat.{ℕ}
 use mathlib.Core.Bool.{true, false}
@@ -250,6 +251,54 @@ focus-inside =
           (bring us-busy table (message 0x08 0x00 0x00), answered none lent []) ∷
           (bring us-busy table (message 0x07 0x00 0x00), answered none lent []) ∷
           (finish us table 0 none, answered none lent (keyEvent code.Digit1 (unidentified (native.Windows 0x02)) none at.Standard Pressed false false none (character (0x31 ∷ [])) ∷ keyEvent code.CapsLock (named key-CapsLock) none at.Standard Released false true none (named key-CapsLock) ∷ keyEvent code.ControlLeft (named key-Control) none at.Left Released false true none (named key-Control) ∷ keyEvent code.ShiftLeft (named key-Shift) none at.Left Released false true none (named key-Shift) ∷ keyEvent code.Digit1 (character (0x31 ∷ [])) none at.Standard Released false true none (character (0x31 ∷ [])) ∷ keyEvent code.KeyE (character (0x45 ∷ [])) none at.Standard Released false true none (character (0x65 ∷ [])) ∷ keyEvent code.CapsLock (named key-CapsLock) none at.Standard Pressed false true none (named key-CapsLock) ∷ keyEvent code.Digit1 (character (0x31 ∷ [])) (some (0x31 ∷ [])) at.Standard Pressed false true (some (0x31 ∷ [])) (character (0x31 ∷ [])) ∷ keyEvent code.KeyE (character (0x45 ∷ [])) (some (0x45 ∷ [])) at.Standard Pressed false true (some (0x45 ∷ [])) (character (0x65 ∷ [])) ∷ keyEvent code.ControlLeft (named key-Control) none at.Left Pressed false true none (named key-Control) ∷ keyEvent code.ShiftLeft (named key-Shift) none at.Left Pressed false true none (named key-Shift) ∷ [])) ∷
+          [];
+    }
+
+-- a peeked WM_QUIT counts as nothing peeked: the press comes out, also the Control that an AltGr message would make fake; 10012 is another kind, so the press is held
+abbrev pub quit-behind-press : Example
+quit-behind-press =
+    record {
+      start = freshSession;
+      calls =
+          (bring us table (message 0x100 0x31 0x20001), answered (some 0) (Value zeroResult) []) ∷
+          (finish us table 0 (some (message 0x12 0x00 0x00)), answered none lent (keyEvent code.Digit1 (unidentified (native.Windows 0x02)) none at.Standard Pressed false false none (character (0x31 ∷ [])) ∷ [])) ∷
+          (bring german-alt-gr table (message 0x100 0x11 0x1D0001), answered (some 0) (Value zeroResult) []) ∷
+          (finish german-alt-gr table 0 (some (message 0x12 0x12 0x1380001)), answered none lent (keyEvent code.ControlLeft (named key-Control) none at.Left Pressed false false none (named key-Control) ∷ [])) ∷
+          (bring us table (message 0x100 0x31 0x20001), answered (some 0) (Value zeroResult) []) ∷
+          (finish us table 0 (some (message 0x10012 0x00 0x00)), answered none lent []) ∷
+          (bring us table (message 0x103 0xB4 0xD0001), answered none (Value zeroResult) (keyEvent code.Digit1 (unidentified (native.Windows 0x02)) none at.Standard Pressed false false none (character (0x31 ∷ [])) ∷ [])) ∷
+          [];
+    }
+
+-- a release with WM_QUIT peeked is written: its fake test sees nothing either; with 10012 it is fake
+abbrev pub quit-behind-release : Example
+quit-behind-release =
+    record {
+      start = freshSession;
+      calls =
+          (bring german-alt-gr table (message 0x101 0x11 0xC01D0001), answered (some 0) (Value zeroResult) []) ∷
+          (finish german-alt-gr table 0 (some (message 0x12 0x12 0x1380001)), answered none lent (keyEvent code.ControlLeft (named key-Control) none at.Left Released false false none (named key-Control) ∷ [])) ∷
+          (bring german-alt-gr table (message 0x101 0x11 0xC01D0001), answered (some 0) (Value zeroResult) []) ∷
+          (finish german-alt-gr table 0 (some (message 0x10012 0x12 0x1380001)), answered none lent []) ∷
+          [];
+    }
+
+-- a character with WM_QUIT peeked is the last one, inside a press that is still open too
+abbrev pub quit-behind-character : Example
+quit-behind-character =
+    record {
+      start = freshSession;
+      calls =
+          (bring us table (message 0x100 0x31 0x20001), answered (some 0) (Value zeroResult) []) ∷
+          (finish us table 0 (some (message 0x102 0x31 0x20001)), answered none lent []) ∷
+          (bring us table (message 0x102 0x31 0x20001), answered (some 0) (Value zeroResult) []) ∷
+          (finish us table 0 (some (message 0x12 0x102 0x20001)), answered none lent (keyEvent code.Digit1 (character (0x31 ∷ [])) (some (0x31 ∷ [])) at.Standard Pressed false false (some (0x31 ∷ [])) (character (0x31 ∷ [])) ∷ [])) ∷
+          (bring us table (message 0x100 0x0D 0x1C0001), answered (some 0) (Value zeroResult) []) ∷
+          (bring us table (message 0x100 0x31 0x20001), answered (some 1) (Value zeroResult) []) ∷
+          (finish us table 1 (some (message 0x102 0x31 0x20001)), answered none lent []) ∷
+          (bring us table (message 0x102 0x31 0x20001), answered (some 2) (Value zeroResult) []) ∷
+          (finish us table 2 (some (message 0x12 0x00 0x00)), answered none lent []) ∷
+          (finish us table 0 (some (message 0x12 0x00 0x00)), answered none lent (keyEvent code.Enter (named key-Enter) none at.Standard Pressed false false none (named key-Enter) ∷ keyEvent code.Digit1 (character (0x31 ∷ [])) (some (0x31 ∷ [])) at.Standard Pressed false false (some (0x31 ∷ [])) (character (0x31 ∷ [])) ∷ [])) ∷
           [];
     }
 
@@ -1171,4 +1220,4 @@ tokens =
 
 abbrev pub examples : List Example
 examples =
-    digit ∷ surrogate-pair ∷ dead-key-and-letter ∷ alt-gr ∷ focus-inside ∷ enter ∷ dead-key-and-text ∷ control-at-press ∷ control-at-character ∷ bare-control ∷ alt-gr-text ∷ unpaired ∷ unpaired-behind-letter ∷ dead-character-behind-text ∷ dead-without-character ∷ dead-at-focus ∷ no-text ∷ listed-unidentified ∷ release-key ∷ toggles-at-focus ∷ pause-at-focus ∷ num-lock ∷ page-e1 ∷ menu-and-above ∷ unlisted-code ∷ wide-surrogate ∷ zero-units ∷ one-piece ∷ several-pieces ∷ no-ranges-of-class ∷ joined-pictographs ∷ two-joiners ∷ flags ∷ syllables ∷ conjunct ∷ around-a-letter ∷ table-of-the-last-finish ∷ wide-kind ∷ close-window ∷ press-by-finish ∷ release-by-open ∷ release-fake-by-finish ∷ release-fake-any-kind ∷ fake-by-lparam ∷ fake-control-alone ∷ nested-press-completed ∷ nested-dead-character ∷ outer-press-forgets ∷ fake-press-forgets ∷ dropped-first ∷ nested-order ∷ held-through-focus ∷ no-token-kept ∷ nothing-held ∷ table-refused ∷ eight-open ∷ sixteen-units ∷ latest-token ∷ entries ∷ tokens ∷ []
+    digit ∷ surrogate-pair ∷ dead-key-and-letter ∷ alt-gr ∷ focus-inside ∷ quit-behind-press ∷ quit-behind-release ∷ quit-behind-character ∷ enter ∷ dead-key-and-text ∷ control-at-press ∷ control-at-character ∷ bare-control ∷ alt-gr-text ∷ unpaired ∷ unpaired-behind-letter ∷ dead-character-behind-text ∷ dead-without-character ∷ dead-at-focus ∷ no-text ∷ listed-unidentified ∷ release-key ∷ toggles-at-focus ∷ pause-at-focus ∷ num-lock ∷ page-e1 ∷ menu-and-above ∷ unlisted-code ∷ wide-surrogate ∷ zero-units ∷ one-piece ∷ several-pieces ∷ no-ranges-of-class ∷ joined-pictographs ∷ two-joiners ∷ flags ∷ syllables ∷ conjunct ∷ around-a-letter ∷ table-of-the-last-finish ∷ wide-kind ∷ close-window ∷ press-by-finish ∷ release-by-open ∷ release-fake-by-finish ∷ release-fake-any-kind ∷ fake-by-lparam ∷ fake-control-alone ∷ nested-press-completed ∷ nested-dead-character ∷ outer-press-forgets ∷ fake-press-forgets ∷ dropped-first ∷ nested-order ∷ held-through-focus ∷ no-token-kept ∷ nothing-held ∷ table-refused ∷ eight-open ∷ sixteen-units ∷ latest-token ∷ entries ∷ tokens ∷ []

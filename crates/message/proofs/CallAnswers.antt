@@ -12,7 +12,7 @@ use Rattle.session.specs.Event.{Event, Held}
 use Rattle.session.specs.Session.{Wait, Session}
 use Rattle.session.specs.Area.{encode, decode, encodeAnswer}
 use Rattle.session.specs.Builder.{Keyboard, keyboardOf, breakTableOf}
-use Rattle.session.specs.Calls.{Sort, sortOf, Effect, effectOf, messageEffect, findWait, resolved, finishEffect}
+use Rattle.session.specs.Calls.{Sort, sortOf, Effect, effectOf, messageEffect, findWait, resolved, seen, finishEffect}
 use Rattle.session.specs.Questions.{question5, question6, question7, question8, question9, firstNo, messageQuestions, finishQuestions, sessionQuestions}
 use Rattle.session.specs.Answers.{Outcome, refused, outcomeOf, refusalNumber, Said, openSaid, finishSaid, saidToken, resultBy, leftBy, openOf, finishOf}
 use Rattle.session.specs.declared.ProcResult.{ProcResult}
@@ -31,8 +31,6 @@ use Rattle.questions.specs.declared.Asked.the-variants as a
 use Rattle.questions.specs.declared.sorts.MessageSort.{MessageSort}
 use Rattle.message.specs.Gives.{Gives}
 use Rattle.message.specs.Passes.{Passes}
-use Rattle.event.specs.Peeked.{asPeeked}
-use Rattle.event.specs.declared.peeked.Peeked.{Peeked}
 use Rattle.message.specs.Resolves.{finishedBy}
 use Rattle.message.specs.Calls.{inputs, left}
 
@@ -125,7 +123,7 @@ module _ (x y state block table : List ℕ) (r : ProcResult) (t : ℕ) (n : Opti
   unfolding sessionQuestions
   finish-put = refl
 
-  finish-done : finishEffect (decode x) (keyboardAt state block) (tableOf table) t n (findWait t (decode x .entries)) ≡ effectOf (decode x) finishes
+  finish-done : finishEffect (decode x) (keyboardAt state block) (tableOf table) t (seen n) (findWait t (decode x .entries)) ≡ effectOf (decode x) finishes
   unfolding keyboardOf breakTableOf
   finish-done = sym (effect-finished (decode x) (inputs state block table) t n)
 
@@ -142,13 +140,13 @@ module _ (x y state block table : List ℕ) (r : ProcResult) (t : ℕ) (n : Opti
 
       pub finish-passed :
           p ≡ a.Passed → {z u : List ℕ} →
-          Does (finishedBy (decode x) (keyboardAt state block) (tableOf table) t n) z u →
+          Does (finishedBy (decode x) (keyboardAt state block) (tableOf table) t (seen n)) z u →
           left (finishSaid f.Finished) r z u ≡ finishOf x y r (inputs state block table) t n
       unfolding asNo leftBy finishSaid
       finish-passed e g =
           let d = finish-done in
           same-left
-          (ap saidToken (sym (finish-token (decode x) (keyboardAt state block) (tableOf table) t n (findWait t (decode x .entries))) ∙ ap (λ (f : Effect). f .token) d))
+          (ap saidToken (sym (finish-token (decode x) (keyboardAt state block) (tableOf table) t (seen n) (findWait t (decode x .entries))) ∙ ap (λ (f : Effect). f .token) d))
           refl
           (g .session ∙ ap (λ (f : Effect). encode (f .after)) d)
           (g .answers ∙ ap (λ (f : Effect). encodeAnswer (f .events)) d)
@@ -164,8 +162,8 @@ told-asked s b m k q h e = rw (← e) h
 
 -- the message of the token u finished with q
 pub told-done :
-    (s : Session) (b : Keyboard) (r : Table) (t : ℕ) (p : Peeked) {u : ℕ} {q : Peeked} {z w : List ℕ} →
-    Does (finishedBy s b r u (asPeeked q)) z w → (u ≡ t) × (q ≡ p) → Does (finishedBy s b r t (asPeeked p)) z w
+    (s : Session) (b : Keyboard) (r : Table) (t : ℕ) (p : Option Message) {u : ℕ} {q : Option Message} {z w : List ℕ} →
+    Does (finishedBy s b r u q) z w → (u ≡ t) × (q ≡ p) → Does (finishedBy s b r t p) z w
 told-done s b r t p h e = rw (← e .0, ← e .1) h
 
 -- ---- 5 to 9

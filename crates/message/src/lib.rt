@@ -78,6 +78,7 @@ pub fn finish(
     if let Asked::Failed(no) = late {
         return FinishAnswer::Refused(no);
     }
-    crate::finishing::finish_open(session, answers, state, block, table, token, peeked);
+    let seen = event::peeked::seen(peeked);
+    crate::finishing::finish_open(session, answers, state, block, table, token, seen);
     FinishAnswer::Finished
 }

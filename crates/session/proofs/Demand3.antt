@@ -14,7 +14,7 @@ use Rattle.session.specs.Event.{Event}
 use Rattle.session.specs.Builder.{keyboardOf, breakTableOf}
 use Rattle.session.specs.Session.{Session, freshSession}
 use Rattle.session.specs.Area.{encode, decode, sessionOk, encodeAnswer}
-use Rattle.session.specs.Calls.{Effect, finishEvent, effectOf}
+use Rattle.session.specs.Calls.{Effect, seen, finishEvent, effectOf}
 use Rattle.session.specs.Questions.{question1, question2, question3, question11, question10, firstNo, messageQuestions, finishQuestions, sessionQuestions}
 use Rattle.session.specs.Answers.{Outcome, refused, answered, outcomeBy, freshArea}
 use Rattle.session.specs.Book.{Arrival, Press, Note, heldIn}
@@ -72,15 +72,15 @@ ended (q ∷ ks) (push S t a D) h c p os w k r f l =
     let v : Paper = view (push S t a D) h c p in
     let fine : Fine v = record { inv = record { stack = push S t a D; h = h; c = c; p = p; wf = w; same = refl }; keeps = k } in
     let passes = closing-passes S t h c a D p q w k (f .0) in
-    let L : List Done = kept t (a .number) (finishEvent (keyboardOf (q .inputs)) (breakTableOf (q .inputs)) (heldIn p) (waitOf a) (q .peeked)) D in
-    let v' : Paper = view (app S L) h c (heldNext p a (q .inputs) (q .peeked)) in
+    let L : List Done = kept t (a .number) (finishEvent (keyboardOf (q .inputs)) (breakTableOf (q .inputs)) (heldIn p) (waitOf a) (seen (q .peeked))) D in
+    let v' : Paper = view (app S L) h c (heldNext p a (q .inputs) (seen (q .peeked))) in
     let e : Effect = effectOf (v .session) g in
     let o : Outcome = answered (e .token) (encode (e .after)) (encodeAnswer (e .events)) in
     let n = answered-next v os g fine (keyboard-ok (q .inputs) (r .0) (f .0 .block)) (latest-passes S t h c a D p (q .inputs) (q .peeked)) in
     let d : done v g e ≡ v' = finish-good S t h c a D p (q .inputs) (q .peeked) w in
     let one : next (areaOf v os) call ≡ areaOf v' (os ++ (o ∷ []))
     = next-by v os call fine ∙ ap (λ (x : Option ℕ). joined (areaOf v os) g (outcomeBy x (v .session) g)) passes ∙ n .0 ∙ ap (λ (x : Paper). areaOf x (os ++ (o ∷ []))) d in
-    let rest = ended ks (app S L) h c (heldNext p a (q .inputs) (q .peeked)) (os ++ (o ∷ [])) (finish-wf S t h c a D (finishEvent (keyboardOf (q .inputs)) (breakTableOf (q .inputs)) (heldIn p) (waitOf a) (q .peeked)) w)
+    let rest = ended ks (app S L) h c (heldNext p a (q .inputs) (seen (q .peeked))) (os ++ (o ∷ [])) (finish-wf S t h c a D (finishEvent (keyboardOf (q .inputs)) (breakTableOf (q .inputs)) (heldIn p) (waitOf a) (seen (q .peeked))) w)
     (subst (λ (x : Paper). Keeps (x .session)) d (n .1 .keeps)) (r .1) (f .1) (rw (tokens-app S L) (omega arith)) in
     record {
       handed-out = rest .handed-out;

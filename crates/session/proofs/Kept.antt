@@ -20,7 +20,7 @@ use Rattle.segmentation.specs.Table.{Table}
 use Rattle.session.specs.Builder.{Keyboard, keyboardOf, breakTableOf, fromMessage, heldOf, withUnits, pressEvent, deadCharEvent, charEvent, releaseEvent, fake}
 use Rattle.session.specs.Focus.{focusEvents}
 use Rattle.session.specs.Session.{Wait, press, release, character, Entry, waiting, complete, Session, tokenOf, openCount, unitsWithin, eventFits, allFit, heldFits, waitFits, entryFits, entriesFit}
-use Rattle.session.specs.Calls.{Sort, keyDown, keyUp, char, deadChar, ignored, focus, sortOf, Effect, nothingDone, opening, numbered, behind, charOpened, deadCharAnswered, messageEffect, holds, moreComing, finishEvent, finishHeld, waitIn, findWait, inPlace, resolve, isFirst, drain, resolved, finishEffect, effectOf}
+use Rattle.session.specs.Calls.{Sort, keyDown, keyUp, char, deadChar, ignored, focus, sortOf, Effect, nothingDone, opening, numbered, behind, charOpened, deadCharAnswered, messageEffect, seen, holds, moreComing, finishEvent, finishHeld, waitIn, findWait, inPlace, resolve, isFirst, drain, resolved, finishEffect, effectOf}
 use Rattle.session.specs.Questions.{opens, behindSome, newEntries, unitsAfter, question5, question6, question7, question8, question9, firstNo, messageQuestions, finishQuestions, sessionQuestions}
 use Rattle.session.proofs.Lists.{and-true, both, pick-ok}
 use Rattle.session.proofs.Fits.{KeyboardOk, info-fits, held-fits, units-fit, press-fits, dead-fits, char-fits, release-fits, focus-fits, focus-most}
@@ -291,4 +291,4 @@ unfolding effectOf sessionQuestions messageQuestions finishQuestions
 call-leaves s (brought i m) o k e =
     let q = passes (question5 s (sortOf m)) (question6 s (sortOf m)) (question7 s (keyboardOf i) (sortOf m)) (question8 s (keyboardOf i) (sortOf m)) (question9 s m (sortOf m)) e in
     message-leaves (sortOf m) s (keyboardOf i) m o k (record { q6 = q .0; q7 = q .1; q8 = q .2; q9 = q .3 })
-call-leaves s (finished i t pk) o k e = found-leaves s (keyboardOf i) (breakTableOf i) t pk (findWait t (s .entries)) o k (find-fits t (s .entries) (k .stored))
+call-leaves s (finished i t pk) o k e = found-leaves s (keyboardOf i) (breakTableOf i) t (seen pk) (findWait t (s .entries)) o k (find-fits t (s .entries) (k .stored))

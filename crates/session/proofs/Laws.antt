@@ -13,7 +13,7 @@ use Rattle.segmentation.specs.Table.{Table}
 use Rattle.session.specs.Builder.{Keyboard, keyboardOf, breakTableOf, fromMessage, heldOf, pressEvent, charEvent, releaseEvent, fake}
 use Rattle.session.specs.Focus.{focusEvents}
 use Rattle.session.specs.Session.{Wait, press, release, character, Session}
-use Rattle.session.specs.Calls.{keyDown, keyUp, char, deadChar, ignored, focus, sortOf, nothingDone, opening, behind, charOpened, deadCharAnswered, messageEffect, holds, moreComing, finishEvent, finishHeld, findWait, isFirst, resolved, finishEffect, effectOf}
+use Rattle.session.specs.Calls.{keyDown, keyUp, char, deadChar, ignored, focus, sortOf, nothingDone, opening, behind, charOpened, deadCharAnswered, messageEffect, seen, holds, moreComing, finishEvent, finishHeld, findWait, isFirst, resolved, finishEffect, effectOf}
 use Rattle.session.specs.declared.ElementState.{ElementState}
 
 -- ---- a call
@@ -24,7 +24,7 @@ effect-brought s i m = refl
 
 pub effect-finished :
     (s : Session) (i : Inputs) (t : ℕ) (p : Option Message) →
-    effectOf s (finished i t p) ≡ finishEffect s (keyboardOf i) (breakTableOf i) t p (findWait t (s .entries))
+    effectOf s (finished i t p) ≡ finishEffect s (keyboardOf i) (breakTableOf i) t (seen p) (findWait t (s .entries))
 unfolding effectOf
 effect-finished s i t p = refl
 

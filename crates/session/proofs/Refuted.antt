@@ -20,10 +20,10 @@ use Rattle.session.specs.Event.{Event}
 use Rattle.session.specs.Builder.{keyboardOf, breakTableOf, fromMessage, heldOf, finalize, fake, pressEvent}
 use Rattle.session.specs.Session.{Wait, Session, freshSession, openCount, eventFits, allFit}
 use Rattle.session.specs.Area.{encode, decode, encodeAnswer, decodeAnswer}
-use Rattle.session.specs.Calls.{Effect, sortOf, nothingDone, opening, messageEffect, holds, finishEvent, finishHeld, findWait, inPlace, resolve, isFirst, drain, resolved, finishEffect, effectOf}
+use Rattle.session.specs.Calls.{Effect, sortOf, nothingDone, opening, messageEffect, seen, holds, finishEvent, finishHeld, findWait, inPlace, resolve, isFirst, drain, resolved, finishEffect, effectOf}
 use Rattle.session.specs.Questions.{opens, newEntries, unitsAfter, question1, question2, question3, question11, question5, question6, question7, question8, question9, firstNo, messageQuestions, sessionQuestions}
 use Rattle.session.specs.Answers.{Outcome, refused, answered, questions, outcomeBy, outcomeOf}
-use Rattle.session.specs.Book.{Arrival, Note, Book, emptyBook, pressOf, noteIn, noteUnless, bookOpen, bookMessage, makesHeld, finishPress, bookFinish, bookStep}
+use Rattle.session.specs.Book.{Arrival, Note, Book, emptyBook, pressOf, noteIn, noteUnless, bookOpen, bookMessage, unlessQuit, makesHeld, finishPress, bookFinish, bookStep}
 use Rattle.session.specs.Run.{Call, State, Closing, start, retoken, joined, next, run, closings}
 use Rattle.session.specs.Demand3.{WellFormed, Closed}
 use Rattle.session.proofs.Queue.{base, push, waitOf, Wf, open-wf}
@@ -128,12 +128,12 @@ module _ (i : Inputs) (y : List ℕ) (wparam lparam : ℕ) where
       }
 
   press-noted : bookStep false (between .book) (finished i 0 none) .noted ≡ record { number = 0; event = pressEvent (pressOf i keyPress) } ∷ []
-  unfolding bookStep bookFinish finishPress makesHeld noteUnless noteIn fake
+  unfolding bookStep bookFinish unlessQuit finishPress makesHeld noteUnless noteIn fake
   press-noted = refl
 
   -- what the calls' own finish hands out
   press-handed-out : effectOf pressOpen (finished i 0 none) .events ≡ pressEvent (pressOf i keyPress) ∷ []
-  unfolding effectOf finishEffect findWait isFirst resolved resolve inPlace drain finishEvent holds fake waitOf
+  unfolding effectOf finishEffect seen findWait isFirst resolved resolve inPlace drain finishEvent holds fake waitOf
   press-handed-out = refl
 
   -- ---- with any definition of a finish
@@ -205,7 +205,7 @@ waitingOn s i t p (some w) = resolved false s t (finishEvent (keyboardOf i) (bre
 
 abbrev pub late : Session → Given → Effect
 late s (brought i m) = effectOf s (brought i m)
-late s (finished i t p) = waitingOn s i t p (findWait t (s .entries))
+late s (finished i t p) = waitingOn s i t (seen p) (findWait t (s .entries))
 
 late-hands-none : (s : Session) (i : Inputs) (t : ℕ) (p : Option Message) (o : Option Wait) → waitingOn s i t p o .events ≡ []
 unfolding resolved
@@ -215,7 +215,7 @@ late-hands-none s i t p (some w) = refl
 pub late-refuted : NotClosed late
 late-refuted i y wparam lparam f bytes closed k =
     let s : Session = pressOpen i y wparam lparam in
-    nothing-refuted i y wparam lparam late (λ s m. refl) f bytes (late-hands-none s i 0 none (findWait 0 (s .entries))) closed k
+    nothing-refuted i y wparam lparam late (λ s m. refl) f bytes (late-hands-none s i 0 (seen none) (findWait 0 (s .entries))) closed k
 
 -- twice
 abbrev pub twice : Session → Given → Effect
@@ -294,13 +294,13 @@ module _ (i : Inputs) (y : List ℕ) (wparam : ℕ) where
   innerNoted = bookStep false (bothOpen .book) (finished i 1 none)
 
   still-open : innerNoted .opened ≡ arrived i y wparam 0 ∷ []
-  unfolding innerNoted bookStep bookFinish finishPress makesHeld
+  unfolding innerNoted bookStep bookFinish unlessQuit finishPress makesHeld
   still-open = refl
 
   both-noted :
       bookStep false innerNoted (finished i 0 none) .noted
       ≡ record { number = 0; event = pressEvent (pressOf i outer) } ∷ record { number = 1; event = pressEvent (pressOf i inner) } ∷ []
-  unfolding innerNoted bookStep bookFinish finishPress makesHeld noteUnless noteIn fake
+  unfolding innerNoted bookStep bookFinish unlessQuit finishPress makesHeld noteUnless noteIn fake
   both-noted = refl
 
   refused-same : (b : Book) → bookStep true b (finished i 0 none) ≡ b
@@ -377,10 +377,10 @@ earlyOn s i t p (some w) =
 
 abbrev pub early : Session → Given → Effect
 early s (brought i m) = effectOf s (brought i m)
-early s (finished i t p) = earlyOn s i t p (findWait t (s .entries))
+early s (finished i t p) = earlyOn s i t (seen p) (findWait t (s .entries))
 
 early-hands : (i : Inputs) (y : List ℕ) (wparam : ℕ) → early (bothOpen i y wparam .session) (finished i 1 none) .events ≡ pressEvent (pressOf i (inner i y wparam)) ∷ []
-unfolding findWait inPlace drain finishEvent holds fake waitOf
+unfolding seen findWait inPlace drain finishEvent holds fake waitOf
 early-hands i y wparam = refl
 
 -- the repeat bit tells the two presses' events apart

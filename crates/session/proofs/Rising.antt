@@ -14,7 +14,7 @@ use Rattle.session.specs.Event.{Event}
 use Rattle.session.specs.Builder.{keyboardOf, fake, pressEvent, releaseEvent}
 use Rattle.session.specs.Focus.{focusEvents}
 use Rattle.session.specs.Answers.{Outcome, refused, answered, outcomeOf}
-use Rattle.session.specs.Book.{Arrival, Press, Note, Book, emptyBook, pressKind, releaseKind, characterKind, deadCharacterKind, closesWindow, noteIn, noteAll, noteUnless, infoOf, pressOf, bookOpen, bookCharacter, bookDeadCharacter, bookFocus, bookMessage, makesHeld, moreToCome, finishPress, finishRelease, finishCharacter, bookFinish, bookStep}
+use Rattle.session.specs.Book.{Arrival, Press, Note, Book, emptyBook, pressKind, releaseKind, characterKind, deadCharacterKind, closesWindow, noteIn, noteAll, noteUnless, infoOf, pressOf, bookOpen, bookCharacter, bookDeadCharacter, bookFocus, bookMessage, unlessQuit, makesHeld, moreToCome, finishPress, finishRelease, finishCharacter, bookFinish, bookStep}
 use Rattle.session.specs.Run.{Call, State, start, joined, next, run}
 use Rattle.session.specs.Demand3.{Rising}
 use Rattle.session.specs.declared.ElementState.the-variants.{Pressed, Released}
@@ -86,7 +86,7 @@ step-noted : (x : Bool) (b : Book) (g : Given) → Ordered b → Ordered (bookSt
 unfolding bookStep
 step-noted true b g r = r
 step-noted false b (brought i m) r = message-noted b i m r
-step-noted false b (finished i t p) r = finish-noted b i p (b .opened) r
+step-noted false b (finished i t p) r = finish-noted b i (unlessQuit p) (b .opened) r
 
 join-noted : (st : State) (g : Given) (o : Outcome) → Ordered (st .book) → Ordered (joined st g o .book)
 unfolding joined

@@ -11,8 +11,8 @@ use Rattle.area.specs.Look.{assoc}
 use Rattle.session.specs.Given.{Message, Inputs}
 use Rattle.session.specs.Builder.{keyboardOf}
 use Rattle.session.specs.Focus.{focusEvents}
-use Rattle.session.specs.Calls.{Sort, keyDown, keyUp, char, deadChar, ignored, focus, sortOf, holds, moreComing}
-use Rattle.session.specs.Book.{Book, pressKind, releaseKind, bookOpen, bookCharacter, bookDeadCharacter, bookFocus, bookMessage, makesHeld, moreToCome}
+use Rattle.session.specs.Calls.{Sort, keyDown, keyUp, char, deadChar, ignored, focus, sortOf, seen, holds, moreComing}
+use Rattle.session.specs.Book.{Book, pressKind, releaseKind, bookOpen, bookCharacter, bookDeadCharacter, bookFocus, bookMessage, unlessQuit, makesHeld, moreToCome}
 
 -- what the book does with a message that the calls sort so
 unfoldable pub bookBy : Sort → Book → Inputs → Message → Book
@@ -73,6 +73,11 @@ pub called : (b : Book) (i : Inputs) (m : Message) → Called (sortOf m) (m .kin
 called b i m = (agrees b i (m .wparam) (m .lparam) (m .kind)) .1
 
 -- ---- what was peeked
+
+pub quit-alike : (p : Option Message) → seen p ≡ unlessQuit p
+unfolding seen unlessQuit assoc
+quit-alike none = refl
+quit-alike (some m) = refl
 
 none-of : (a b c d : Bool) → pick a false (pick b false (pick c false (pick d false true))) ≡ not ((a || c) || (b || d))
 none-of true b c d = refl

@@ -16,13 +16,13 @@ use Rattle.session.specs.Event.{Event, Info, Held}
 use Rattle.session.specs.Builder.{Keyboard, keyboardOf, breakTableOf, heldOf, withUnits, pressEvent, deadCharEvent, releaseEvent, fake}
 use Rattle.session.specs.Focus.{focusEvents}
 use Rattle.session.specs.Session.{Wait, press, release, character, Entry, waiting, Session, tokenOf}
-use Rattle.session.specs.Calls.{Sort, keyDown, keyUp, char, deadChar, ignored, focus, sortOf, Effect, opening, behind, charOpened, deadCharAnswered, messageEffect, moreComing, finishEvent, finishHeld, drain, resolved, finishEffect, effectOf}
+use Rattle.session.specs.Calls.{Sort, keyDown, keyUp, char, deadChar, ignored, focus, sortOf, Effect, opening, behind, charOpened, deadCharAnswered, messageEffect, moreComing, seen, finishEvent, finishHeld, drain, resolved, finishEffect, effectOf}
 use Rattle.session.specs.Questions.{isToken, lastToken, question10, firstNo, messageQuestions, finishQuestions, sessionQuestions}
 use Rattle.session.specs.Book.{Arrival, Press, Note, Book, pressKind, releaseKind, infoOf, pressOf, heldPress, heldIn, noteAll, noteUnless, makesHeld, moreToCome, bookOpen, bookCharacter, bookDeadCharacter, bookFocus, finishPress, finishRelease, finishCharacter, bookFinish, bookStep}
 use Rattle.session.specs.Run.{pushed, retoken}
 use Rattle.session.proofs.Lists.{All, all-map}
 use Rattle.session.proofs.Queue.{Done, Stack, base, push, waitOf, entryOf, noteOf, eventOf, flat, dones, bottom, openedOf, tokensOf, handedOf, app, Wf, dones-below, flat-below, find-at, resolve-at, not-first, is-first, behind-at, last-at, drain-entries, note-all, tagged, entries-tagged, events-tagged, kept, entries-kept, noteOpt, note-kept, finish-wf, open-wf, behind-wf}
-use Rattle.session.proofs.Sorts.{bookBy, Called, book-sorted, called, held-alike, more-alike}
+use Rattle.session.proofs.Sorts.{bookBy, Called, book-sorted, called, quit-alike, held-alike, more-alike}
 
 -- ---- a state of a run on paper, with the session itself in place of its area
 
@@ -220,25 +220,25 @@ later-resolved A D t n h w p q o k =
 
 finish-first :
     (D : List Done) (t n h : ℕ) (w : Wait) (p : Option Held) (i : Inputs) (pk : Option Message) →
-    effectOf (queued h (waiting t w ∷ map entryOf D) p) (finished i t pk) ≡ handsOut (map eventOf (kept t n (finishEvent (keyboardOf i) (breakTableOf i) p w pk) D)) (finishHeld (keyboardOf i) p w pk)
+    effectOf (queued h (waiting t w ∷ map entryOf D) p) (finished i t pk) ≡ handsOut (map eventOf (kept t n (finishEvent (keyboardOf i) (breakTableOf i) p w (seen pk)) D)) (finishHeld (keyboardOf i) p w (seen pk))
 unfolding effectOf finishEffect
 finish-first D t n h w p i pk =
     let s : Session = queued h (waiting t w ∷ map entryOf D) p in
-    let o : Option Event = finishEvent (keyboardOf i) (breakTableOf i) p w pk in
-    let q : Option Held = finishHeld (keyboardOf i) p w pk in
-    ap (finishEffect s (keyboardOf i) (breakTableOf i) t pk) (find-at [] (map entryOf D) t w tt)
+    let o : Option Event = finishEvent (keyboardOf i) (breakTableOf i) p w (seen pk) in
+    let q : Option Held = finishHeld (keyboardOf i) p w (seen pk) in
+    ap (finishEffect s (keyboardOf i) (breakTableOf i) t (seen pk)) (find-at [] (map entryOf D) t w tt)
     ∙ ap (λ (b : Bool). resolved b s t o q) (is-first t w (map entryOf D))
     ∙ first-resolved D t n h w p q o
 
 finish-later :
     (A B : List Entry) (x : Entry) (D : List Done) (t n h : ℕ) (w : Wait) (p : Option Held) (i : Inputs) (pk : Option Message) → All (λ x. tokenOf x < t) (A ++ (x ∷ B)) →
-    effectOf (queued h ((A ++ (x ∷ B)) ++ (waiting t w ∷ map entryOf D)) p) (finished i t pk) ≡ waits h ((A ++ (x ∷ B)) ++ map entryOf (kept t n (finishEvent (keyboardOf i) (breakTableOf i) p w pk) D)) (finishHeld (keyboardOf i) p w pk)
+    effectOf (queued h ((A ++ (x ∷ B)) ++ (waiting t w ∷ map entryOf D)) p) (finished i t pk) ≡ waits h ((A ++ (x ∷ B)) ++ map entryOf (kept t n (finishEvent (keyboardOf i) (breakTableOf i) p w (seen pk)) D)) (finishHeld (keyboardOf i) p w (seen pk))
 unfolding effectOf finishEffect
 finish-later A B x D t n h w p i pk k =
     let s : Session = queued h ((A ++ (x ∷ B)) ++ (waiting t w ∷ map entryOf D)) p in
-    let o : Option Event = finishEvent (keyboardOf i) (breakTableOf i) p w pk in
-    let q : Option Held = finishHeld (keyboardOf i) p w pk in
-    ap (finishEffect s (keyboardOf i) (breakTableOf i) t pk) (find-at (A ++ (x ∷ B)) (map entryOf D) t w k)
+    let o : Option Event = finishEvent (keyboardOf i) (breakTableOf i) p w (seen pk) in
+    let q : Option Held = finishHeld (keyboardOf i) p w (seen pk) in
+    ap (finishEffect s (keyboardOf i) (breakTableOf i) t (seen pk)) (find-at (A ++ (x ∷ B)) (map entryOf D) t w k)
     ∙ ap (λ (b : Bool). resolved b s t o q) (not-first A B (waiting t w ∷ map entryOf D) x t k)
     ∙ later-resolved (A ++ (x ∷ B)) D t n h w p q o k
 
@@ -246,15 +246,15 @@ pub finish-good :
     (S : Stack) (t h c : ℕ) (a : Arrival) (D : List Done) (p : Option Press) (i : Inputs) (pk : Option Message) → Wf c h (push S t a D) →
     let v : Paper = view (push S t a D) h c p in
     done v (finished i t pk) (effectOf (v .session) (finished i t pk))
-    ≡ view (app S (kept t (a .number) (finishEvent (keyboardOf i) (breakTableOf i) (heldIn p) (waitOf a) pk) D)) h c (heldNext p a i pk)
+    ≡ view (app S (kept t (a .number) (finishEvent (keyboardOf i) (breakTableOf i) (heldIn p) (waitOf a) (seen pk)) D)) h c (heldNext p a i (seen pk))
 unfolding done retoken bookStep
 finish-good (base D₀) t h c a D p i pk w =
     rw (finish-first D t (a .number) h (waitOf a) (heldIn p) i pk)
-    (rw (book-finish, note-kept D₀ D t (a .number) (finishEvent (keyboardOf i) (breakTableOf i) (heldIn p) (waitOf a) pk) (all-map (λ d x. omega arith) D₀ (w .0)) (all-map (λ d x. x .0) D (w .4)), held-next p a i pk)
+    (rw (sym (quit-alike pk), book-finish, note-kept D₀ D t (a .number) (finishEvent (keyboardOf i) (breakTableOf i) (heldIn p) (waitOf a) (seen pk)) (all-map (λ d x. omega arith) D₀ (w .0)) (all-map (λ d x. x .0) D (w .4)), held-next p a i (seen pk))
     (simp map-append))
 finish-good (push S t' a' D') t h c a D p i pk w =
     rw (finish-later (flat S) (map entryOf D') (waiting t' (waitOf a')) D t (a .number) h (waitOf a) (heldIn p) i pk (flat-below (push S t' a' D') (a .number) t (w .0)))
-    (rw (book-finish, note-kept (dones S ++ D') D t (a .number) (finishEvent (keyboardOf i) (breakTableOf i) (heldIn p) (waitOf a) pk) (all-map (λ d x. omega arith) (dones S ++ D') (dones-below (push S t' a' D') (a .number) t (w .0))) (all-map (λ d x. x .0) D (w .4)), held-next p a i pk)
+    (rw (sym (quit-alike pk), book-finish, note-kept (dones S ++ D') D t (a .number) (finishEvent (keyboardOf i) (breakTableOf i) (heldIn p) (waitOf a) (seen pk)) (all-map (λ d x. omega arith) (dones S ++ D') (dones-below (push S t' a' D') (a .number) t (w .0))) (all-map (λ d x. x .0) D (w .4)), held-next p a i (seen pk))
     (simp (append-nil, map-append, append-assoc)))
 
 -- ---- any call
@@ -323,8 +323,8 @@ finish-at (base D) h c p i t pk w e = absurd (let z : _≡_ {A = ℕ} 0 1 = cc i
 finish-at (push S u a D) h c p i t pk w e =
     let same : u ≡ t = sym (latest-token t (lastToken (flat S ++ (waiting u (waitOf a) ∷ map entryOf D))) u (last-at (flat S) D u (waitOf a)) e) in
     subst (λ x. Good (done (view (push S u a D) h c p) (finished i x pk) (effectOf ((view (push S u a D) h c p) .session) (finished i x pk)))) same
-    (good (app S (kept u (a .number) (finishEvent (keyboardOf i) (breakTableOf i) (heldIn p) (waitOf a) pk) D)) h c (heldNext p a i pk) _
-    (finish-wf S u h c a D (finishEvent (keyboardOf i) (breakTableOf i) (heldIn p) (waitOf a) pk) w)
+    (good (app S (kept u (a .number) (finishEvent (keyboardOf i) (breakTableOf i) (heldIn p) (waitOf a) (seen pk)) D)) h c (heldNext p a i (seen pk)) _
+    (finish-wf S u h c a D (finishEvent (keyboardOf i) (breakTableOf i) (heldIn p) (waitOf a) (seen pk)) w)
     (finish-good S u h c a D p i pk w))
 
 -- the questions of a call that brings a message do not matter here, those of a finish make its token the latest

@@ -127,6 +127,11 @@ bookMessage b i m =
 
 -- ---- a finish
 
+-- SCOPE 3.17: what was peeked, unless it is 12
+unfoldable pub unlessQuit : Option Message → Option Message
+unlessQuit none = none
+unlessQuit (some m) = pick (eqb (m .kind) 0x12) none (some m)
+
 -- SCOPE 3.5: a peeked kind other than 100, 101, 104, 105
 unfoldable pub makesHeld : Option Message → Bool
 makesHeld none = false
@@ -173,4 +178,4 @@ bookFinish b i p (a ∷ os) =
 unfoldable pub bookStep : Bool → Book → Given → Book
 bookStep true b g = b
 bookStep false b (brought i m) = bookMessage b i m
-bookStep false b (finished i t p) = bookFinish b i p (b .opened)
+bookStep false b (finished i t p) = bookFinish b i (unlessQuit p) (b .opened)

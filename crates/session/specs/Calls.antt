@@ -11,7 +11,7 @@ use Rattle.area.specs.Look.{assoc}
 use Rattle.text.specs.Message.{charUnits}
 use Rattle.segmentation.specs.Table.{Table}
 use Rattle.lookup.specs.LParam.{keyLParam, virtualKey}
-use Rattle.session.specs.Given.{Message, Given, brought, finished, WM-SETFOCUS, WM-KILLFOCUS, WM-KEYDOWN, WM-KEYUP, WM-CHAR, WM-DEADCHAR, WM-SYSKEYDOWN, WM-SYSKEYUP, WM-SYSCHAR, WM-SYSDEADCHAR, VK-F4}
+use Rattle.session.specs.Given.{Message, Given, brought, finished, WM-SETFOCUS, WM-KILLFOCUS, WM-KEYDOWN, WM-KEYUP, WM-CHAR, WM-DEADCHAR, WM-SYSKEYDOWN, WM-SYSKEYUP, WM-SYSCHAR, WM-SYSDEADCHAR, WM-QUIT, VK-F4}
 use Rattle.session.specs.Event.{Event, Held}
 use Rattle.session.specs.Builder.{Keyboard, keyboardOf, breakTableOf, fromMessage, heldOf, withUnits, pressEvent, deadCharEvent, charEvent, releaseEvent, fake}
 use Rattle.session.specs.Focus.{focusEvents}
@@ -89,6 +89,11 @@ messageEffect s b m ignored = nothingDone s
 
 -- ---- a finish
 
+-- SCOPE 3.17: a peeked WM_QUIT counts as nothing peeked, whatever its parameters
+unfoldable pub seen : Option Message → Option Message
+seen none = none
+seen (some m) = assoc ((WM-QUIT, none) ∷ []) (some m) (m .kind)
+
 -- SCOPE 3.5: a peeked kind other than 100, 101, 104, 105 makes this press the held one; nothing peeked does not
 unfoldable pub holds : Option Message → Bool
 holds none = false
@@ -157,4 +162,4 @@ finishEffect s b r t p (some w) =
 
 unfoldable pub effectOf : Session → Given → Effect
 effectOf s (brought i m) = messageEffect s (keyboardOf i) m (sortOf m)
-effectOf s (finished i t p) = finishEffect s (keyboardOf i) (breakTableOf i) t p (findWait t (s .entries))
+effectOf s (finished i t p) = finishEffect s (keyboardOf i) (breakTableOf i) t (seen p) (findWait t (s .entries))

@@ -56,5 +56,8 @@ WM-SYSCHAR = 0x106
 abbrev pub WM-SYSDEADCHAR : ℕ
 WM-SYSDEADCHAR = 0x107
 
+abbrev pub WM-QUIT : ℕ
+WM-QUIT = 0x12
+
 abbrev pub VK-F4 : ℕ
 VK-F4 = 0x73

@@ -25,7 +25,7 @@ const LENT: Slot = Slot::Value(7);
 
 /// The answers of tao, each with what is then to be seen of its builder.
 fn tao(steps: &[Step]) -> Vec<(Answer, Option<Snapshot>)> {
-  let calls: Vec<_> = steps.iter().filter(|s| s.refused.is_none()).map(Step::call).collect();
+  let calls: Vec<_> = steps.iter().filter(|s| s.refused.is_none()).map(|s| s.call().for_tao()).collect();
   let calls: Vec<_> = calls.iter().collect();
   let run = run_script(&calls, &vec![LENT; calls.len()]);
   assert!(run.panicked.is_none() && run.problem.is_none(), "{:?} {:?}", run.panicked, run.problem);
@@ -112,6 +112,7 @@ fn row(e: &Example) -> String {
 const HEAD: &str = "\
 -- Worked examples with tao 0.37.2's own answers, written by oracle/expected (oracle/README.md, not to be edited). Tokens are counted from
 -- tao's last empty queue. Calls that SCOPE 6 refuses were not given to tao: it panics there (5) or has no such limit or test (6 to 11).
+-- A finish with WM_QUIT peeked was given to it as one with nothing peeked (SCOPE 3.17).
 -- Assumes nothing.
 use Prim.Native.Nat.{ℕ}
 use mathlib.Core.Bool.{true, false}

@@ -46,7 +46,8 @@ pub enum Answer {
 
 /// tao's answers to calls, none of which is refused.
 fn tao(steps: &[&Step]) -> Vec<Answer> {
-  let calls: Vec<&Call> = steps.iter().map(|s| &s.call).collect();
+  let calls: Vec<Call> = steps.iter().map(|s| s.call.for_tao()).collect();
+  let calls: Vec<&Call> = calls.iter().collect();
   let slots: Vec<Slot> = steps.iter().map(|s| s.lent).collect();
   let run = run_script(&calls, &slots);
   assert!(run.panicked.is_none() && run.problem.is_none(), "{:?} {:?}", run.panicked, run.problem);

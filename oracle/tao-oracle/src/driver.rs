@@ -328,6 +328,22 @@ mod tests {
     assert_eq!(answers[3].snapshot, t::Snapshot { handed: 0, entries: vec![], held: None });
   }
 
+  /// A peeked WM_QUIT: tao takes it as belonging to the press and holds a key that nobody completes; given as nothing peeked, the press comes out.
+  #[test]
+  fn quit_holds_the_press() {
+    let layout = Arc::new(t::LayoutSpec::empty(78));
+    let call = |body| t::Call { body, state: Arc::new([0; 256]), layout: layout.clone(), table: Default::default() };
+    let open = call(t::Body::Open { kind: 0x100, wparam: 0x31, lparam: 0x2_0001 });
+    let quit = call(t::Body::Finish { token: 0, peeked: Some(t::Peeked { kind: 0x12, wparam: 0, lparam: 0 }) });
+    let last = |finish: &t::Call| {
+      let run = run_script(&[&open, finish], &[t::Slot::DefaultProcedure; 2]);
+      let answer = run.answers.into_iter().flatten().last().unwrap();
+      (answer.events.len(), answer.snapshot.held.is_some())
+    };
+    assert_eq!(last(&quit), (0, true));
+    assert_eq!(last(&quit.for_tao()), (1, false));
+  }
+
   /// 103 with nothing held: tao panics behind add_pending, so the entry stays and every later event
   /// waits behind it for good.
   #[test]

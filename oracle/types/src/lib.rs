@@ -145,6 +145,24 @@ pub enum Body {
   Finish { token: u32, peeked: Option<Peeked> },
 }
 
+/// WM_QUIT, which PeekMessageW hands out whatever the filter.
+const QUIT: u32 = 0x12;
+
+impl Body {
+  /// Whether it is a finish with WM_QUIT peeked.
+  pub fn sees_quit(&self) -> bool {
+    matches!(self, Body::Finish { peeked: Some(m), .. } if m.kind == QUIT)
+  }
+
+  /// What tao is given of it: a peeked WM_QUIT counts as nothing peeked (docs/SCOPE.md, 3.17), where tao itself holds the press.
+  pub fn for_tao(self) -> Body {
+    match self {
+      Body::Finish { token, .. } if self.sees_quit() => Body::Finish { token, peeked: None },
+      other => other,
+    }
+  }
+}
+
 /// One call: its own arguments, the key-state bytes, the layout and the break table.
 #[derive(Clone)]
 pub struct Call {
@@ -152,6 +170,13 @@ pub struct Call {
   pub state: Arc<[u8; 256]>,
   pub layout: Arc<LayoutSpec>,
   pub table: Arc<BreakTable>,
+}
+
+impl Call {
+  /// What tao is given of it.
+  pub fn for_tao(&self) -> Call {
+    Call { body: self.body.for_tao(), ..self.clone() }
+  }
 }
 
 impl fmt::Debug for Call {

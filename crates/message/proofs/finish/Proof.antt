@@ -3,6 +3,7 @@
 use mathlib.Core.Path.{refl}
 use borrow.Author.Needs.{needs}
 use Rattle.session.specs.Area.{decode}
+use Rattle.session.specs.Calls.{seen}
 use Rattle.segmentation.specs.Layout.{tableOf}
 use Rattle.event.specs.Written.{keyboardAt}
 use Rattle.queue.specs.Changed.{Does}
@@ -16,18 +17,18 @@ use Rattle.message.proofs.finish.Tie as tie
 -- from the finish of the message back to what the call is given
 abbrev given : tie.After-finish-open → tie.Start
 given c =
-    let passed = c .before .before .before in
-    let late = passed .before .before in
+    let seen-by = c .before .before .before in
+    let late = seen-by .before .before .before in
     let early = late .before .before .before .before in
     let known = early .before .before .before in
     known .before .before .before .before .before
 
--- the message of the call's token is finished, with what the call was given as peeked
+-- the message of the call's token is finished, with what counts of what the call was given as peeked
 done-in :
     (c : tie.After-finish-open) →
     let a = given c .args in
-    Does (finishedBy (decode (a .session .now)) (keyboardAt (a .state .now) (a .block .now)) (tableOf (a .table .now)) (a .token .0) (asPeeked (a .peeked))) (c .finish-open .last .0) (c .finish-open .last .1 .0)
-done-in c = let a = given c .args in told-done _ _ _ (a .token .0) (a .peeked) (c .finish-open .ensures) (refl, refl)
+    Does (finishedBy (decode (a .session .now)) (keyboardAt (a .state .now) (a .block .now)) (tableOf (a .table .now)) (a .token .0) (seen (asPeeked (a .peeked)))) (c .finish-open .last .0) (c .finish-open .last .1 .0)
+done-in c = let a = given c .args in told-done _ _ _ (a .token .0) (seen (asPeeked (a .peeked))) (c .finish-open .ensures) (refl, c .before .before .before .seen .ensures)
 
 ask-areas-requires : tie.Need-ask-areas-requires
 ask-areas-requires c κs = search needs
@@ -72,9 +73,12 @@ returns-2 c =
 enum-told-2 : tie.Need-enum-told-2
 enum-told-2 c = search needs
 
+seen-requires : tie.Need-seen-requires
+seen-requires c κs = search needs
+
 finish-open-requires : tie.Need-finish-open-requires
 finish-open-requires c κs =
-    let late = c .before .before .before .before in
+    let late = c .before .before .before .before .before in
     let told = late .before .before in
     let e = told .before .before .ask-areas .ensures in
     let p = told .enum-told .given .1 in
@@ -89,7 +93,7 @@ same-length-6 c = search needs
 returns-3 : tie.Need-returns-3
 returns-3 c =
     let done = c .before .before .before .before in
-    let passed = done .before .before .before in
+    let passed = done .before .before .before .before in
     let late = passed .before .before in
     let told = late .before .before in
     let early = told .before .before in
@@ -113,6 +117,7 @@ finish-spec =
     same-length-4
     returns-2
     enum-told-2
+    seen-requires
     finish-open-requires
     same-length-5
     same-length-6

@@ -100,6 +100,9 @@ pub fn more(board: &Board, token: u32) -> Step {
   seeing(board, token, 0x102, 0x31, lparam(0x02))
 }
 
+/// WM_QUIT.
+pub const QUIT: u32 = 0x12;
+
 /// A finish with a message of the key AltGr peeked.
 pub fn before_alt_gr(board: &Board, token: u32, kind: u32) -> Step {
   seeing(board, token, kind, 0x12, lparam(0xE038))
@@ -193,6 +196,46 @@ pub fn examples(b: &Boards, t: &Tables) -> Vec<Example> {
       "focus-inside",
       "focus lost and gained while a press peeks: all come out at its finish, the press first",
       vec![press(us, 0x31, 0x02), loss(us_busy), gain(us_busy), alone(us, 0)],
+    ),
+    // ---- WM_QUIT peeked; tao is shown nothing there (Body::for_tao)
+    example(
+      "quit-behind-press",
+      "a peeked WM_QUIT counts as nothing peeked: the press comes out, also the Control that an AltGr message would make fake; 10012 is another kind, so the press is held",
+      vec![
+        press(us, 0x31, 0x02),
+        seeing(us, 0, QUIT, 0, 0),
+        press(german_alt_gr, 0x11, 0x1D),
+        before_alt_gr(german_alt_gr, 0, QUIT),
+        press(us, 0x31, 0x02),
+        seeing(us, 0, 0x1_0012, 0, 0),
+        dead_character(us, 0xB4),
+      ],
+    ),
+    example(
+      "quit-behind-release",
+      "a release with WM_QUIT peeked is written: its fake test sees nothing either; with 10012 it is fake",
+      vec![
+        release(german_alt_gr, 0x11, 0x1D),
+        before_alt_gr(german_alt_gr, 0, QUIT),
+        release(german_alt_gr, 0x11, 0x1D),
+        before_alt_gr(german_alt_gr, 0, 0x1_0012),
+      ],
+    ),
+    example(
+      "quit-behind-character",
+      "a character with WM_QUIT peeked is the last one, inside a press that is still open too",
+      vec![
+        press(us, 0x31, 0x02),
+        more(us, 0),
+        character(us, 0x31),
+        seeing(us, 0, QUIT, 0x102, lparam(0x02)),
+        press(us, 0x0D, 0x1C),
+        press(us, 0x31, 0x02),
+        more(us, 1),
+        character(us, 0x31),
+        seeing(us, 2, QUIT, 0, 0),
+        seeing(us, 0, QUIT, 0, 0),
+      ],
     ),
     // ---- the mark of a held press: typed text may become its logical key
     example(
@@ -531,7 +574,7 @@ pub fn examples(b: &Boards, t: &Tables) -> Vec<Example> {
         refused(11, more(us, 0).on(touching)),
         refused(11, alone(us, 7).on(class_14)),
         more(us, 0).on(no_ranges),
-        refused(11, bring(us, 0x12, 0, 0).on(class_14)),
+        refused(11, bring(us, QUIT, 0, 0).on(class_14)),
         refused(11, gain(us_busy).on(no_bytes)),
         character(us, 0x31),
         refused(11, alone(us, 0).on(no_bytes)),
