@@ -20,7 +20,7 @@ use Rattle.session.specs.declared.OpenAnswer.{OpenAnswer}
 use Rattle.session.specs.declared.OpenAnswer.the-variants as o
 use Rattle.session.specs.declared.FinishAnswer.the-variants as f
 use Rattle.session.specs.declared.Refusal.{Refusal}
-use Rattle.session.proofs.Laws.{effect-brought, effect-finished, finish-found, finish-lost}
+use Rattle.message.proofs.Effects.{effect-brought, effect-finished, finish-found, finish-lost}
 use Rattle.event.specs.Written.{keyboardAt}
 use Rattle.queue.specs.Changed.{Does}
 use Rattle.questions.proofs.Outcome.{first-passed, outcome-early, outcome-late, outcome-passed, every-none}

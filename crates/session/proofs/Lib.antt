@@ -4,7 +4,6 @@ pub mod Area
 pub mod Writes
 pub mod Ranges
 pub mod Fits
-pub mod Laws
 pub mod Queue
 pub mod Sorts
 pub mod Steps

@@ -19,7 +19,7 @@ use Rattle.session.specs.InBlock.{infoIn}
 use Rattle.session.specs.declared.PartialKeyEventInfo.{PartialKeyEventInfo}
 use Rattle.session.specs.Calls.{Effect, holds, moreComing, finishEvent, finishHeld, findWait, isFirst, resolved}
 use Rattle.session.specs.Questions.{isHeld}
-use Rattle.session.proofs.Laws.{finish-found, event-press, event-release, event-none, event-char, held-press, held-release, held-none, held-char}
+use Rattle.message.proofs.Effects.{finish-found, event-press, event-release, event-none, event-char, held-press, held-release, held-none, held-char}
 use Rattle.event.specs.Written.{keyboardAt}
 use Rattle.queue.specs.Changed.{Does, holding, resolvedBy}
 use Rattle.queue.specs.Place.{StandsAt}

@@ -24,7 +24,7 @@ use Rattle.session.specs.Session.{press, release, character, Entry, tokenOf, in
 use Rattle.session.specs.Area.{fullKey, info, pressed, entry, decode, encodeAnswer}
 use Rattle.session.specs.Builder.{Keyboard}
 use Rattle.session.specs.Calls.{waitIn, findWait}
-use Rattle.session.proofs.Laws.{finish-lost}
+use Rattle.message.proofs.Effects.{finish-lost}
 use Rattle.session.proofs.Lists.{and-true}
 use Rattle.session.proofs.Kept.{find-fits, WaitIn}
 use Rattle.record.specs.Pending.{pendingOf}

@@ -14,7 +14,7 @@ use Rattle.session.specs.Focus.{focusEvents}
 use Rattle.session.specs.Answers.{openSaid, noToken}
 use Rattle.session.specs.declared.ElementState.{ElementState}
 use Rattle.session.specs.declared.OpenAnswer.{OpenAnswer}
-use Rattle.session.proofs.Laws.{press-effect, release-effect, char-effect, dead-effect, focus-effect, ignored-effect}
+use Rattle.message.proofs.Effects.{press-effect, release-effect, char-effect, dead-effect, focus-effect, ignored-effect}
 use Rattle.queue.specs.Room.{IsArea}
 use Rattle.queue.proofs.Areas.{own-area}
 use Rattle.questions.specs.Sorts.{asSort}

@@ -1,5 +1,5 @@
--- What the definitions of a call say, case by case, for the proofs about code: they cite these and leave the definitions shut. The proofs
--- about runs open the definitions themselves.
+-- What the definitions of a call say, case by case: the proofs about code cite these and leave the definitions shut. They stand here and not
+-- beside the definitions, where a wrong definition is to be refused by what is said of runs.
 -- Assumes nothing.
 use mathlib.Core.Path.{_≡_, refl}
 use mathlib.Core.Option.{Option, some, none}
