@@ -1,0 +1,45 @@
+-- `trace::form::digit_of` meets its contract.
+-- Assumes nothing.
+use Prim.Native.Nat.{_-_}
+use native.Mathlib.Omega.{arith}
+use borrow.Author.Tests.{lt-ltb, le-ltb}
+use Rattle.trace.specs.Form.{digitOf}
+use borrow.Author.Needs.{needs}
+use Rattle.trace.proofs.form.digit_of.Statement.{statement}
+use Rattle.trace.proofs.form.digit_of.Tie as tie
+use Rattle.trace.proofs.form.digit_of.Reads as reads
+use Rattle.trace.proofs.form.digit_of.Lts as lts
+
+returns : tie.Need-returns
+unfolding digitOf
+returns c = (rw (lt-ltb _ 48 (c .if1 .taken)), omega arith)
+
+cast-result : tie.Need-cast-result
+cast-result c = search needs
+
+returns-2 : tie.Need-returns-2
+unfolding digitOf
+returns-2 c = (rw (le-ltb _ 48 (c .before .if1 .left), lt-ltb _ 58 (c .if2 .taken)), omega arith)
+
+returns-3 : tie.Need-returns-3
+unfolding digitOf
+returns-3 c = (rw (le-ltb _ 48 (c .before .before .if1 .left), le-ltb _ 58 (c .before .if2 .left), lt-ltb _ 97 (c .if3 .taken)), omega arith)
+
+sub-result : tie.Need-sub-result
+sub-result c = search needs
+
+cast-result-2 : tie.Need-cast-result-2
+cast-result-2 c = search needs
+
+returns-4 : tie.Need-returns-4
+unfolding digitOf
+returns-4 c = (rw (le-ltb _ 48 (c .before .before .before .if1 .left), le-ltb _ 58 (c .before .before .if2 .left), le-ltb _ 97 (c .before .if3 .left), lt-ltb _ 103 (c .if4 .taken)), omega arith)
+
+returns-5 : tie.Need-returns-5
+unfolding digitOf
+returns-5 c = (rw (le-ltb _ 48 (c .before .before .before .if1 .left), le-ltb _ 58 (c .before .before .if2 .left), le-ltb _ 97 (c .before .if3 .left), le-ltb _ 103 (c .if4 .left)), omega arith)
+
+pub digit-of-spec : {M : Type 1} → statement M
+digit-of-spec =
+    tie.close
+    (tie.spec returns cast-result returns-2 returns-3 sub-result cast-result-2 returns-4 returns-5)

@@ -1,0 +1,34 @@
+-- `trace::numeral::glyph_of` meets its contract.
+-- Assumes nothing.
+use Prim.Native.Nat.{_-_}
+use borrow.Author.Tests.{lt-ltb, le-ltb}
+use Rattle.trace.specs.Numeral.{glyph}
+use borrow.Author.Needs.{needs}
+use Rattle.trace.proofs.numeral.glyph_of.Statement.{statement}
+use Rattle.trace.proofs.numeral.glyph_of.Tie as tie
+use Rattle.trace.proofs.numeral.glyph_of.Reads as reads
+use Rattle.trace.proofs.numeral.glyph_of.Lts as lts
+
+add-result : tie.Need-add-result
+add-result c = search needs
+
+cast-result : tie.Need-cast-result
+cast-result c = search needs
+
+returns : tie.Need-returns
+unfolding glyph
+returns c = rw (lt-ltb _ 10 (c .if1 .taken))
+
+add-result-2 : tie.Need-add-result-2
+add-result-2 c = search needs
+
+cast-result-2 : tie.Need-cast-result-2
+cast-result-2 c = search needs
+
+returns-2 : tie.Need-returns-2
+unfolding glyph
+returns-2 c = rw (le-ltb _ 10 (c .if1 .left))
+
+pub glyph-of-spec : {M : Type 1} → statement M
+glyph-of-spec =
+    tie.close (tie.spec add-result cast-result returns add-result-2 cast-result-2 returns-2)

@@ -1,0 +1,5 @@
+pub mod Numeral
+pub mod Form
+pub mod Grammar
+pub mod Wrote
+pub mod Lines
