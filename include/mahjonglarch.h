@@ -77,7 +77,7 @@ extern "C" {
 #endif
 
 /* The number of this interface. It rises with each change of a signature, of a number's meaning or of an area. */
-#define MAHJONGLARCH_INTERFACE 3u
+#define MAHJONGLARCH_INTERFACE 2u
 
 /* ---- Sizes and limits */
 
@@ -110,9 +110,8 @@ extern "C" {
 
 /* ---- Refusals: what a call answers that fails a question, the number of the first it fails (docs/SCOPE.md, 6)
  *
- * A refused call changes no byte of either area. 1 to 3, 11 and 4, in this order, are put to `open` and `finish`, 6 to 9 to `open`, 10 to `finish`.
- * A message that is ignored (below), and 103 or 107 with no press held, passes 6 to 9; question 6 is put only to messages that open. No call
- * answers 5: it was a dead character's with no press held, which is answered since interface 3, and the number is not used again.
+ * A refused call changes no byte of either area. 1 to 3, 11 and 4, in this order, are put to `open` and `finish`, 5 to 9 to `open`, 10 to `finish`.
+ * A message that is ignored (below) passes 5 to 9, and question 6 is put only to messages that open.
  *
  * A refused open took no part in the session: its message is not processed. A refused finish leaves its message open, and all that arrives
  * behind it waits. That of the latest open message is refused only with 1, 2, 3 or 11, as long as nothing but these calls wrote the area; the
@@ -123,6 +122,7 @@ extern "C" {
  *     3        yes, with the layout read anew                                 if the block stays so
  *     11       yes, with the table read anew                                  if the table stays so
  *     4        no: something else wrote into the area                         at once: overwrite both areas, begin afresh, reject the card
+ *     5        no: nothing typed is lost by it                                no
  *     6        yes, once a message has been finished                          if it can't be brought again: its digit is lost
  *     7, 8     yes, once the open messages are finished, the latest first     if it can't be brought again: its digit is lost
  *     9        no: the character is not added to the press                    reject the card: its text is not whole
@@ -134,7 +134,7 @@ enum mahjonglarch_refusal {
     MAHJONGLARCH_REFUSED_KEY_STATE_SIZE = 2, /* are there 256 key-state bytes? */
     MAHJONGLARCH_REFUSED_BLOCK = 3,          /* is the block at most 65,536 bytes and laid out as docs/AREAS.md says? */
     MAHJONGLARCH_REFUSED_SESSION = 4,        /* is the session area that of a session? Never, if only these calls wrote it */
-    /* 5 is not used again */
+    MAHJONGLARCH_REFUSED_NOTHING_HELD = 5,   /* for the kinds 103 and 107: is a press held? */
     MAHJONGLARCH_REFUSED_TOO_MANY_OPEN = 6,  /* to open: are fewer than 8 open? */
     MAHJONGLARCH_REFUSED_QUEUE_FULL = 7,     /* do the new entries fit within 256? */
     MAHJONGLARCH_REFUSED_TOKENS_USED = 8,    /* do the tokens since the queue was empty stay within 4,096? */
@@ -152,7 +152,7 @@ enum mahjonglarch_kind {
     MAHJONGLARCH_WM_KEYDOWN = 0x100,     /* opens a press; message result 0 */
     MAHJONGLARCH_WM_KEYUP = 0x101,       /* opens a release; message result 0 */
     MAHJONGLARCH_WM_CHAR = 0x102,        /* opens a character of the held press; message result 0 */
-    MAHJONGLARCH_WM_DEADCHAR = 0x103,    /* answered whole: completes the held press, does nothing with none held; message result 0 */
+    MAHJONGLARCH_WM_DEADCHAR = 0x103,    /* answered whole: completes the held press; message result 0 */
     MAHJONGLARCH_WM_SYSKEYDOWN = 0x104,  /* opens a press; message result of the default procedure */
     MAHJONGLARCH_WM_SYSKEYUP = 0x105,    /* as 101 */
     MAHJONGLARCH_WM_SYSCHAR = 0x106,     /* as 102 */

@@ -20,7 +20,6 @@ macro_rules! cases {
 cases! {
   Scripts "scripts"
   Quit "scripts with WM_QUIT peeked, which tao is given as nothing peeked"
-  Unheld "scripts with a 103 or 107 and no press held, which tao is not given"
   Calls "calls, closings included"
   Answered "answered"
   Refused "refused"
@@ -42,6 +41,7 @@ cases! {
   Refused2 "refusal 2"
   Refused3 "refusal 3"
   Refused4 "refusal 4"
+  Refused5 "refusal 5"
   Refused6 "refusal 6"
   Refused7 "refusal 7"
   Refused8 "refusal 8"
@@ -56,8 +56,6 @@ cases! {
   FocusNone "focus without events"
   DeadEmpty "103, 107 on an empty queue"
   DeadWaits "103, 107 on a queue with entries"
-  DeadUnheld "103, 107 with no press held"
-  DeadUnheldFull "the same, where eight are open or no entry or token is left"
   CodeZero "a press or release with scan code 00"
   Depth1 "a message opened as the 1st"
   Depth2 "as the 2nd"
@@ -168,9 +166,7 @@ impl Counts {
 
   pub fn refused(&mut self, number: u32) {
     self.add(Case::Refused);
-    // no call is refused with 5
-    let place = if number > 5 { number - 2 } else { number - 1 };
-    self.0[after(Case::Refused1, place as usize)] += 1;
+    self.0[after(Case::Refused1, number as usize - 1)] += 1;
   }
 
   /// An answered open, with the session before it and behind it.
@@ -186,10 +182,6 @@ impl Counts {
         let empty = before.entries.is_empty();
         self.add(if empty { Case::FocusEmpty } else { Case::FocusWaits });
         self.when(events == 0 && behind.entries.len() == before.entries.len(), Case::FocusNone);
-      }
-      0x103 | 0x107 if before.held.is_none() => {
-        self.add(Case::DeadUnheld);
-        self.when(before.open() == 8 || before.entries.len() == 256 || before.handed == 4096, Case::DeadUnheldFull);
       }
       0x103 | 0x107 => self.add(if before.entries.is_empty() { Case::DeadEmpty } else { Case::DeadWaits }),
       0x104 if !opened => self.add(Case::F4),

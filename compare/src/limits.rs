@@ -84,7 +84,7 @@ fn open_messages(l: &Layouts) -> Vec<Case> {
     c.open(6, ninth, 0x61, lparam(0x1E));
     // what opens nothing passes
     c.open(0, 0x104, 0x73, lparam(0x3E)).open(0, 0x7, 0, 0).open(0, 0x8, 0, 0).open(0, 0x12, 0, 0);
-    c.open(0, 0x103, 0xB4, lparam(0x0D)).open(0, 0x107, 0xB4, lparam(0x0D)).open(0, 0x102, 0x61, lparam(0x1E));
+    c.open(0, 0x103, 0xB4, lparam(0x0D)).open(5, 0x107, 0xB4, lparam(0x0D)).open(0, 0x102, 0x61, lparam(0x1E));
     c.finish(0, None).open(0, 0x100, 0x31, lparam(0x02)).open(6, 0x101, 0x31, up(0x02));
     all.push(c);
   }
@@ -120,14 +120,6 @@ fn entries(l: &Layouts) -> Vec<Case> {
   c.with_keys(&keys_down(248)).open(0, 0x7, 0, 0).open(7, 0x8, 0, 0).with_keys(&state(&[]));
   c.open(6, 0x100, 0x31, 1).open(7, 0x107, 0x31, 1).open(0, 0x8, 0, 0);
   all.push(c);
-  // with no press held a dead character needs no entry
-  let mut c = Case::new("eight open and 256 entries, no press held", &l.full);
-  for _ in 0..8 {
-    c.open(0, 0x101, 0x31, up(0x32));
-  }
-  c.with_keys(&keys_down(248)).open(0, 0x7, 0, 0).open(7, 0x8, 0, 0).with_keys(&state(&[]));
-  c.open(6, 0x100, 0x31, 1).open(0, 0x103, 0xB4, lparam(0x0D)).open(0, 0x107, 0xB4, lparam(0x0D));
-  all.push(c);
   all
 }
 
@@ -155,21 +147,13 @@ fn tokens(l: &Layouts) -> Vec<Case> {
     c.open(0, 0x8, 0, 0).open(if handed == 4093 || handed == 4095 { 0 } else { 8 }, 0x107, 0xB4, 1);
     all.push(c);
   }
-  // 7 comes before 8
+  // 7 comes before 8, and 5 before both
   let mut c = upto("4,096 tokens and 256 entries".into(), 4096 - 255);
   let full = Step { layout: l.full.clone(), state: keys_down(253), ..c.plain(Body::Open(message(0x8, 0, 0))) };
   c.step(0, full);
   c.with_keys(&state(&[(0x31, 0x80)])).open(0, 0x7, 0, 0).open(0, 0x7, 0, 0).open(7, 0x7, 0, 0);
   c.with_keys(&state(&[])).open(7, 0x100, 0x31, 1).open(7, 0x102, 0x31, 1).open(0, 0x8, 0, 0);
-  c.finish(0, None).open(0, 0x103, 0, 0);
-  all.push(c);
-  // with no press held a dead character needs no token
-  let mut c = Case::new("4,096 tokens, no press held", &l.accent);
-  c.open(0, 0x100, 0x31, lparam(0x02));
-  for _ in 1..4096 {
-    c.fake();
-  }
-  c.open(8, 0x101, 0x31, up(0x02)).open(0, 0x103, 0xB4, lparam(0x0D)).open(0, 0x107, 0xB4, lparam(0x0D));
+  c.finish(0, None).open(5, 0x103, 0, 0);
   all.push(c);
   // 8 comes before 9
   let mut c = upto("4,096 tokens and sixteen units".into(), 4096 - 8);
@@ -270,7 +254,7 @@ fn order(l: &Layouts) -> Vec<Case> {
     let some: Vec<&(u32, Vec<Odd>)> = odd.iter().enumerate().filter(|(i, _)| mask >> i & 1 == 1).map(|o| o.1).collect();
     let all: Vec<Odd> = some.iter().flat_map(|o| o.1.clone()).collect();
     let first = some.first().map(|o| o.0);
-    c.odd(first.unwrap_or(0), dead, &all).odd(first.unwrap_or(10), wrong, &all);
+    c.odd(first.unwrap_or(5), dead, &all).odd(first.unwrap_or(10), wrong, &all);
   }
   vec![c]
 }

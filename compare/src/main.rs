@@ -12,7 +12,6 @@ mod run;
 mod script;
 mod shrink;
 mod tables;
-mod traces;
 
 use count::grouped;
 use generate::Generator;
@@ -102,29 +101,10 @@ fn show(steps: &[Step]) {
   }
 }
 
-/// The program replay on random traces.
-fn traces(seed: u64, count: u64, program: &str) -> ExitCode {
-  match traces::traces(seed, count, program) {
-    Ok(counts) => {
-      println!("{} traces, no difference\n\n{counts}", grouped(count));
-      ExitCode::SUCCESS
-    }
-    Err(difference) => {
-      println!("{difference}");
-      ExitCode::FAILURE
-    }
-  }
-}
-
 fn main() -> ExitCode {
   let args: Vec<String> = std::env::args().skip(1).collect();
   let args: Vec<&str> = args.iter().map(String::as_str).collect();
   let seeds = |first: &str, last: &str| Some((first.parse::<u64>().ok()?, last.parse::<u64>().ok()?));
-  if let ["traces", seed, count, program] = args[..] {
-    if let Some((seed, count)) = seeds(seed, count) {
-      return traces(seed, count, program);
-    }
-  }
   let outcome = match args[..] {
     ["seeded", first, last] => seeds(first, last).map(|(first, last)| part(|m| seeded(m, first, last))),
     ["exhaustive"] => Some(part(exhaustive)),
@@ -145,9 +125,7 @@ fn main() -> ExitCode {
       ExitCode::FAILURE
     }
     None => {
-      eprintln!(
-        "compare seeded FIRST LAST | exhaustive | limits | damage | all FIRST LAST | traces SEED COUNT PROGRAM"
-      );
+      eprintln!("compare seeded FIRST LAST | exhaustive | limits | damage | all FIRST LAST");
       ExitCode::from(2)
     }
   }

@@ -8,7 +8,7 @@ use crate::{
   fields::c_event,
   layouts::{forget_passing, passing_id, Layout},
   library::{self, Lent, Said, AREA, FIELDS, NONE, TEXT_MOST},
-  script::{Body, Message, Odd, Step, Token},
+  script::{Body, Odd, Step, Token},
   tables::Table,
 };
 use areas::{
@@ -97,8 +97,6 @@ pub struct Machine {
   now: Session,
   /// Whether the script has an answered finish with WM_QUIT peeked.
   quit: bool,
-  /// Whether it has a dead character with no press held.
-  unheld: bool,
   steps: usize,
   calls: Vec<Call>,
   records: Vec<Record>,
@@ -128,7 +126,6 @@ impl Machine {
       zeros: vec![0; AREA],
       now: Session::fresh(),
       quit: false,
-      unheld: false,
       steps: 0,
       calls: vec![],
       records: vec![],
@@ -166,7 +163,6 @@ impl Machine {
     forget_passing();
     self.now = Session::fresh();
     self.quit = false;
-    self.unheld = false;
     self.counts.add(Case::Scripts);
     let first = self.session.area_mut();
     first[0] = 1;
@@ -410,12 +406,6 @@ impl Machine {
       return self.differs("behind the call the session area is no session's");
     };
     let opened = said.token.filter(|t| *t != NONE);
-    match step.body {
-      Body::Open(m) if matches!(m.kind, 0x103 | 0x107) && self.now.held.is_none() => {
-        return self.unheld(m, said, n, &behind)
-      }
-      _ => (),
-    }
     let body = match step.body {
       Body::Open(m) => kbtypes::Body::Open { kind: m.kind, wparam: m.wparam, lparam: m.lparam },
       Body::Finish { peeked, .. } => kbtypes::Body::Finish { token: 0, peeked },
@@ -439,20 +429,6 @@ impl Machine {
     Ok(())
   }
 
-  /// A dead character with no press held does nothing and sets `result` to value 0 (docs/SCOPE.md, 3.3). tao panics there, so it is not given one.
-  fn unheld(&mut self, m: Message, said: Said, events: usize, behind: &Session) -> Outcome<()> {
-    if (said.token, said.result, events) != (Some(NONE), Some(2), 0) {
-      return self.differs(format!("a dead character with no press held gives {said:X?} and {events} events"));
-    }
-    if *behind != self.now {
-      return self.differs("a dead character with no press held changed the session");
-    }
-    self.unheld = true;
-    self.counts.opened(&m, &self.now, behind, false, events);
-    self.counts.add(Case::Answered);
-    Ok(())
-  }
-
   /// Closes what is open, latest first, with nothing peeked. `like` is a call whose keyboard serves.
   fn close(&mut self, like: &Step) -> Outcome<()> {
     let body = Body::Finish { token: Token::Latest, peeked: None };
@@ -472,9 +448,6 @@ impl Machine {
     self.guards()?;
     if self.quit {
       self.counts.add(Case::Quit);
-    }
-    if self.unheld {
-      self.counts.add(Case::Unheld);
     }
     if !self.now.entries.is_empty() || self.now.handed != 0 {
       return self.differs("something waits although nothing is open");

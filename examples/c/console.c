@@ -33,7 +33,7 @@ static const char *const REFUSALS[] = {
     "the key state is not of 256 bytes",
     "the layout block is not in order",
     "the session area is not that of a session",
-    "", /* 5 is not used again */
+    "a dead character, and no press is held",
     "eight messages are open",
     "more than 256 entries",
     "more than 4,096 tokens since the queue was empty",

@@ -10,7 +10,7 @@ pub const WM_KEYDOWN: u32 = 0x100;
 pub const WM_KEYUP: u32 = 0x101;
 /// A character of the held press.
 pub const WM_CHAR: u32 = 0x102;
-/// A dead character: completes the held press, and does nothing with none held.
+/// A dead character: completes the held press.
 pub const WM_DEADCHAR: u32 = 0x103;
 /// A press with Alt, or without the focus.
 pub const WM_SYSKEYDOWN: u32 = 0x104;

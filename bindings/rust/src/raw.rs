@@ -3,7 +3,7 @@
 pub use crate::ffi::{event, event_count, event_text, finish, fresh, interface, open};
 
 /// The number of the interface that this crate was written for. Compare it with [`interface`] before the first call; [`crate::Session::new`] does.
-pub const INTERFACE: u32 = 3;
+pub const INTERFACE: u32 = 2;
 
 /// 4,294,967,295. As a token: none was opened. As a count or a length: there is none.
 pub const NONE: u32 = u32::MAX;

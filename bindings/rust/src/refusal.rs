@@ -19,7 +19,8 @@ pub enum Refusal {
   Block = 3,
   /// Is the session area that of a session? Something else wrote into it: stop, begin with a fresh session, reject the card.
   Session = 4,
-  // 5 was a dead character's with no press held, which is answered now; the number is not used again.
+  /// For a dead character: is a press held? Nothing typed is lost; go on.
+  NothingHeld = 5,
   /// To open: are fewer than 8 open? Bring the message again once one has been finished, or reject the card: its digit is lost.
   TooManyOpen = 6,
   /// Do the new entries fit within 256? An early message was never finished: finish the open ones, the latest first, and bring the message again.
@@ -36,11 +37,12 @@ pub enum Refusal {
 }
 
 impl Refusal {
-  const ALL: [Refusal; 10] = [
+  const ALL: [Refusal; 11] = [
     Refusal::AreaSize,
     Refusal::KeyStateSize,
     Refusal::Block,
     Refusal::Session,
+    Refusal::NothingHeld,
     Refusal::TooManyOpen,
     Refusal::QueueFull,
     Refusal::TokensUsed,
@@ -49,7 +51,7 @@ impl Refusal {
     Refusal::Table,
   ];
 
-  /// The number of the question: 1 to 11 without 5.
+  /// The number of the question, 1 to 11.
   pub fn number(self) -> u32 {
     self as u32
   }
@@ -67,6 +69,7 @@ impl fmt::Display for Refusal {
       Refusal::KeyStateSize => "the key state is not of 256 bytes",
       Refusal::Block => "the layout block is not in order",
       Refusal::Session => "the session area is not that of a session",
+      Refusal::NothingHeld => "a dead character, and no press is held",
       Refusal::TooManyOpen => "eight messages are open",
       Refusal::QueueFull => "more than 256 entries",
       Refusal::TokensUsed => "more than 4,096 tokens since the queue was empty",

@@ -1,5 +1,5 @@
-//! The calls of crates/recorded with tao's own answers: some thousands, on several layouts and break tables. oracle/README.md ('The calls of
-//! recorded') lays the file out. Held to tao: the token, the message result, tokens handed out, whether a press is held, the number of entries, and
+//! The calls of crates/replay with tao's own answers: some thousands, on several layouts and break tables. oracle/README.md ('The calls of
+//! replay') lays the file out. Held to tao: the token, the message result, tokens handed out, whether a press is held, the number of entries, and
 //! every byte of the answer area; and each event as this crate reads it, to its bytes (docs/AREAS.md). The numbers of refused calls are those of
 //! docs/SCOPE.md, 6.
 mod common;
@@ -161,15 +161,15 @@ impl Replay {
   }
 }
 
-/// What crates/recorded prints of its scripts: their names, calls and events.
+/// What crates/replay prints of its scripts: their names, calls and events.
 fn tao_scripts() -> Vec<&'static str> {
-  let lines = include_str!("../../../crates/recorded/stdout").lines();
+  let lines = include_str!("../../../crates/replay/stdout").lines();
   lines.take_while(|line| !line.contains("scripts")).collect()
 }
 
 #[test]
-fn the_calls_of_recorded() {
-  let mut file = Reader(include_bytes!("../../../crates/recorded/data/calls"));
+fn the_calls_of_replay() {
+  let mut file = Reader(include_bytes!("../../../crates/replay/data/calls"));
   let blocks: Vec<_> = (0..file.byte()).map(|_| file.counted()).collect();
   let tables: Vec<_> = (0..file.byte()).map(|_| file.counted()).collect();
   let (session, answers) = (vec![0; AREA_SIZE], vec![0; AREA_SIZE]);

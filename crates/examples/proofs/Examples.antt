@@ -34,7 +34,7 @@ use Rattle.session.specs.Session.{Session, fresh_session, open_count, rising, fi
 use Rattle.session.specs.Builder.{Keyboard, keyboard_of, break_table_of, layout_key, plain_key, code_as_key, forced_key, undead, from_message, is_character, mark_of, held_of, with_units, typed_text, typed_key, finalize, press_event, dead_char_event, control_counts, last_text, several_text, char_event, release_event, is_control, fake}
 use Rattle.session.specs.Focus.{modifier_keys, is_other, others_from, focus_keys, focus_key, focus_text, synthetic_event, written, synthetic_events, focus_events}
 use Rattle.session.specs.Calls.{Effect, sort_of, opening, numbered, behind, char_opened, dead_char_answered, message_effect, seen, holds, more_coming, finish_event, finish_held, find_wait, in_place, resolve, is_first, drain, resolved, finish_effect, effect_of}
-use Rattle.session.specs.Questions.{opens, new_entries, units_after, last_token, question11, question6, question7, question8, question9, question10, first_no, message_questions, finish_questions, session_questions}
+use Rattle.session.specs.Questions.{opens, new_entries, units_after, last_token, question11, question5, question6, question7, question8, question9, question10, first_no, message_questions, finish_questions, session_questions}
 use Rattle.session.specs.Answers.{result_by}
 use Rattle.session.specs.Limits.{KEYS}
 use Rattle.examples.specs.Examples.{Step, bring, finish, Answer, Example, keyboard_in, Brought, AllBrought, refusal, effect, result, answer_by, after_by, answers_by, expected_in, AllHold}
@@ -136,7 +136,7 @@ all_pass [] = true
 all_pass (x ∷ xs) = boards_pass x.calls && all_pass xs
 
 answers_computed : answers_on examples ≡ expected_of examples
-unfolding assoc scalar encode_with utf16_of utf8_of unit_step utf16_step table3_7 lead_in by_lead utf8_step read_from well_formed scalars_in text_of num every pictograph joiner indicators break_at breaks_after pieces props_in props_of pieces_of several_in first_at last_at kind_at segment table_of last_before after_last ends_at known_at range_ok ranges_ok table_ok char_units to_text native_kind native_value code_number code_native code_key scan_codes key_code_of key_lparam ex_scancode ex_scancode_of virtual_key down toggled any_down num_lock_on caps_lock_on active_modifiers remove_only_ctrl bits_of find find_code list_for non_char_key get_key scan_code_for message_scancode vkey_for places vkey_place location_in extended_code location_of fresh_session open_count layout_key plain_key code_as_key forced_key undead from_message is_character mark_of held_of with_units typed_text typed_key finalize press_event dead_char_event control_counts last_text several_text char_event release_event is_control fake modifier_keys is_other others_from focus_keys focus_key focus_text synthetic_event written synthetic_events focus_events sort_of opening numbered behind char_opened dead_char_answered message_effect seen holds more_coming finish_event finish_held find_wait in_place resolve is_first drain resolved finish_effect opens new_entries units_after last_token question6 question7 question8 question9 question10 first_no message_questions finish_questions result_by
+unfolding assoc scalar encode_with utf16_of utf8_of unit_step utf16_step table3_7 lead_in by_lead utf8_step read_from well_formed scalars_in text_of num every pictograph joiner indicators break_at breaks_after pieces props_in props_of pieces_of several_in first_at last_at kind_at segment table_of last_before after_last ends_at known_at range_ok ranges_ok table_ok char_units to_text native_kind native_value code_number code_native code_key scan_codes key_code_of key_lparam ex_scancode ex_scancode_of virtual_key down toggled any_down num_lock_on caps_lock_on active_modifiers remove_only_ctrl bits_of find find_code list_for non_char_key get_key scan_code_for message_scancode vkey_for places vkey_place location_in extended_code location_of fresh_session open_count layout_key plain_key code_as_key forced_key undead from_message is_character mark_of held_of with_units typed_text typed_key finalize press_event dead_char_event control_counts last_text several_text char_event release_event is_control fake modifier_keys is_other others_from focus_keys focus_key focus_text synthetic_event written synthetic_events focus_events sort_of opening numbered behind char_opened dead_char_answered message_effect seen holds more_coming finish_event finish_held find_wait in_place resolve is_first drain resolved finish_effect opens new_entries units_after last_token question5 question6 question7 question8 question9 question10 first_no message_questions finish_questions result_by
 answers_computed = refl
 
 starts_computed : starts_pass examples ≡ true

@@ -1,6 +1,5 @@
 -- Worked examples with tao 0.37.2's own answers, written by oracle/expected (oracle/README.md, not to be edited). Tokens are counted from
--- tao's last empty queue. Calls that SCOPE 6 refuses were not given to tao: it has no such limit or test (6 to 11), nor were 103 and
--- 107 with no press held, at which it panics (SCOPE 3.3).
+-- tao's last empty queue. Calls that SCOPE 6 refuses were not given to tao: it panics there (5) or has no such limit or test (6 to 11).
 -- A finish with WM_QUIT peeked was given to it as one with nothing peeked (SCOPE 3.17).
 -- Assumes nothing.
 use Rattle.std.specs.Prelude.{ℕ, true, false, List, [], ◌∷◌}
@@ -1051,37 +1050,15 @@ no_token_kept =
           [];
     }
 
--- a 103 or 107 with no press held opens nothing, hands out nothing and sets the result; a 102 is ignored; the press behind them is as ever
+-- a 103 with no press held is refused 5, a 102 is ignored
 abbrev pub nothing_held : Example
 nothing_held =
     record {
       start = fresh_session;
       calls =
-          (bring us table (message 0x103 0xB4 0xD0001), answered none (Value zero_result) []) ∷
-          (bring us table (message 0x107 0x00 0x00), answered none (Value zero_result) []) ∷
+          (bring us table (message 0x103 0xB4 0xD0001), refused 5) ∷
+          (bring us table (message 0x107 0x00 0x00), refused 5) ∷
           (bring us table (message 0x102 0x31 0x20001), answered none lent []) ∷
-          (bring us table (message 0x100 0x31 0x20001), answered (some 0) (Value zero_result) []) ∷
-          (bring us table (message 0x103 0xB4 0xD0001), answered none (Value zero_result) []) ∷
-          (finish us table 0 none, answered none lent (key_event code.Digit1 (unidentified (native.Windows 0x02)) none at.Standard Pressed false false none (character (0x31 ∷ [])) ∷ [])) ∷
-          [];
-    }
-
--- a second 103 finds no press held: the first one's event is handed out once, straight or behind an open message
-abbrev pub nothing_held_any_more : Example
-nothing_held_any_more =
-    record {
-      start = fresh_session;
-      calls =
-          (bring us table (message 0x100 0x31 0x20001), answered (some 0) (Value zero_result) []) ∷
-          (finish us table 0 (some (message 0x102 0x31 0x20001)), answered none lent []) ∷
-          (bring us table (message 0x103 0xB4 0xD0001), answered none (Value zero_result) (key_event code.Digit1 (unidentified (native.Windows 0x02)) none at.Standard Pressed false false none (character (0x31 ∷ [])) ∷ [])) ∷
-          (bring us table (message 0x103 0xB4 0xD0001), answered none (Value zero_result) []) ∷
-          (bring us table (message 0x100 0x31 0x20001), answered (some 0) (Value zero_result) []) ∷
-          (finish us table 0 (some (message 0x102 0x31 0x20001)), answered none lent []) ∷
-          (bring us table (message 0x101 0x45 0xC0120001), answered (some 0) (Value zero_result) []) ∷
-          (bring us table (message 0x103 0xB4 0xD0001), answered none (Value zero_result) []) ∷
-          (bring us table (message 0x107 0xB4 0xD0001), answered none (Value zero_result) []) ∷
-          (finish us table 0 none, answered none lent (key_event code.KeyE (character (0x65 ∷ [])) none at.Standard Released false false none (character (0x65 ∷ [])) ∷ key_event code.Digit1 (unidentified (native.Windows 0x02)) none at.Standard Pressed false false none (character (0x31 ∷ [])) ∷ [])) ∷
           [];
     }
 
@@ -1105,7 +1082,7 @@ table_refused =
           [];
     }
 
--- with eight open a focus message, a 103 with a press held and with none, and ignored ones pass, and a ninth open is refused 6
+-- with eight open a focus message, a 103 and ignored ones pass, and a ninth open is refused 6
 abbrev pub eight_open : Example
 eight_open =
     record {
@@ -1123,7 +1100,6 @@ eight_open =
           (bring us table (message 0x101 0x31 0xC0020001), answered (some 7) (Value zero_result) []) ∷
           (bring us table (message 0x102 0x31 0x20001), refused 6) ∷
           (bring us_control table (message 0x07 0x00 0x00), answered none lent []) ∷
-          (bring us table (message 0x103 0xB4 0xD0001), answered none (Value zero_result) []) ∷
           (bring us table (message 0x103 0xB4 0xD0001), answered none (Value zero_result) []) ∷
           (bring us table (message 0x102 0x31 0x20001), answered none lent []) ∷
           (bring us table (message 0x104 0x73 0x3E0001), answered none lent []) ∷
@@ -1205,7 +1181,7 @@ latest_token =
           [];
     }
 
--- behind a press and 254 releases inside it: 256 entries pass, 257 are refused 7; focus counts the events that it would write; a 103 with no press held needs no entry; one call hands out all 256
+-- behind a press and 254 releases inside it: 256 entries pass, 257 are refused 7; focus counts the events that it would write; one call hands out all 256
 abbrev pub entries : Example
 entries =
     record {
@@ -1216,14 +1192,13 @@ entries =
           (bring us table (message 0x07 0x00 0x00), answered none lent []) ∷
           (bring us_control table (message 0x08 0x00 0x00), refused 7) ∷
           (bring us table (message 0x101 0x31 0xC0020001), refused 7) ∷
-          (bring us table (message 0x103 0xB4 0xD0001), answered none (Value zero_result) []) ∷
           (finish us table 0 none, answered none lent (key_event code.Digit1 (unidentified (native.Windows 0x02)) none at.Standard Pressed false false none (character (0x31 ∷ [])) ∷ times 254 (key_event code.Digit1 (character (0x31 ∷ [])) none at.Standard Released false false none (character (0x31 ∷ []))) (key_event code.ControlLeft (named key-Control) none at.Left Pressed false true none (named key-Control) ∷ []))) ∷
           (bring us table (message 0x101 0x31 0xC0020001), answered (some 0) (Value zero_result) []) ∷
           (finish us table 0 none, answered none lent (key_event code.Digit1 (character (0x31 ∷ [])) none at.Standard Released false false none (character (0x31 ∷ [])) ∷ [])) ∷
           [];
     }
 
--- behind a press and 4,094 fakes inside it: the 4,096th token passes, the 4,097th is refused 8; focus without an event and a 107 with no press held pass; tokens restart
+-- behind a press and 4,094 fakes inside it: the 4,096th token passes, the 4,097th is refused 8; focus without an event passes; tokens restart
 abbrev pub tokens : Example
 tokens =
     record {
@@ -1233,7 +1208,6 @@ tokens =
           (bring us table (message 0x101 0x31 0xC0020001), answered (some 4095) (Value zero_result) []) ∷
           (bring us_control table (message 0x07 0x00 0x00), refused 8) ∷
           (bring us table (message 0x07 0x00 0x00), answered none lent []) ∷
-          (bring us table (message 0x107 0xB4 0xD0001), answered none (Value zero_result) []) ∷
           (finish us table 4095 none, answered none lent []) ∷
           (bring us table (message 0x101 0x31 0xC0020001), refused 8) ∷
           (finish us table 0 none, answered none lent (key_event code.Digit1 (unidentified (native.Windows 0x02)) none at.Standard Pressed false false none (character (0x31 ∷ [])) ∷ key_event code.Digit1 (character (0x31 ∷ [])) none at.Standard Released false false none (character (0x31 ∷ [])) ∷ [])) ∷
@@ -1244,4 +1218,4 @@ tokens =
 
 abbrev pub examples : List Example
 examples =
-    digit ∷ surrogate_pair ∷ dead_key_and_letter ∷ alt_gr ∷ focus_inside ∷ quit_behind_press ∷ quit_behind_release ∷ quit_behind_character ∷ enter ∷ dead_key_and_text ∷ control_at_press ∷ control_at_character ∷ bare_control ∷ alt_gr_text ∷ unpaired ∷ unpaired_behind_letter ∷ dead_character_behind_text ∷ dead_without_character ∷ dead_at_focus ∷ no_text ∷ listed_unidentified ∷ release_key ∷ toggles_at_focus ∷ pause_at_focus ∷ num-lock ∷ page_e1 ∷ menu_and_above ∷ unlisted_code ∷ wide_surrogate ∷ zero_units ∷ one_piece ∷ several-pieces ∷ no_ranges_of_class ∷ joined_pictographs ∷ two_joiners ∷ flags ∷ syllables ∷ conjunct ∷ around_a_letter ∷ table_of_the_last_finish ∷ wide_kind ∷ close_window ∷ press_by_finish ∷ release_by_open ∷ release_fake_by_finish ∷ release_fake_any_kind ∷ fake_by_lparam ∷ fake_control_alone ∷ nested_press_completed ∷ nested_dead_character ∷ outer_press_forgets ∷ fake_press_forgets ∷ dropped_first ∷ nested_order ∷ held_through_focus ∷ no_token_kept ∷ nothing_held ∷ nothing_held_any_more ∷ table_refused ∷ eight_open ∷ sixteen_units ∷ latest_token ∷ entries ∷ tokens ∷ []
+    digit ∷ surrogate_pair ∷ dead_key_and_letter ∷ alt_gr ∷ focus_inside ∷ quit_behind_press ∷ quit_behind_release ∷ quit_behind_character ∷ enter ∷ dead_key_and_text ∷ control_at_press ∷ control_at_character ∷ bare_control ∷ alt_gr_text ∷ unpaired ∷ unpaired_behind_letter ∷ dead_character_behind_text ∷ dead_without_character ∷ dead_at_focus ∷ no_text ∷ listed_unidentified ∷ release_key ∷ toggles_at_focus ∷ pause_at_focus ∷ num-lock ∷ page_e1 ∷ menu_and_above ∷ unlisted_code ∷ wide_surrogate ∷ zero_units ∷ one_piece ∷ several-pieces ∷ no_ranges_of_class ∷ joined_pictographs ∷ two_joiners ∷ flags ∷ syllables ∷ conjunct ∷ around_a_letter ∷ table_of_the_last_finish ∷ wide_kind ∷ close_window ∷ press_by_finish ∷ release_by_open ∷ release_fake_by_finish ∷ release_fake_any_kind ∷ fake_by_lparam ∷ fake_control_alone ∷ nested_press_completed ∷ nested_dead_character ∷ outer_press_forgets ∷ fake_press_forgets ∷ dropped_first ∷ nested_order ∷ held_through_focus ∷ no_token_kept ∷ nothing_held ∷ table_refused ∷ eight_open ∷ sixteen_units ∷ latest_token ∷ entries ∷ tokens ∷ []

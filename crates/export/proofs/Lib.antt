@@ -1,4 +1,3 @@
 mod Interface
 pub mod Fields
 pub mod HandedOut
-pub mod Bounded

@@ -12,7 +12,7 @@ use Rattle.export.specs.Events.{is_answer}
 
 -- the number of this interface: it rises with each change of a signature, of what a number means, or of an area
 abbrev pub INTERFACE : ℕ
-INTERFACE = 3
+INTERFACE = 2
 
 -- an open in numbers: its refusal, its token, what becomes of the message result, and both areas are those of all that it leaves
 abbrev pub OpenSays : ℕ → ℕ → ℕ → List ℕ → List ℕ → Left → ProcResult → Type 0

@@ -21,7 +21,7 @@ use session::{PendingMessageToken, ProcResult};
 // ---- which interface this is
 
 // It rises with each change of a signature, of what a number means, or of an area. MAHJONGLARCH_INTERFACE of the header is the same.
-const INTERFACE: u32 = 3;
+const INTERFACE: u32 = 2;
 
 // The number of this interface, for a host to compare with its header's before the first call.
 #[unsafe(no_mangle)]

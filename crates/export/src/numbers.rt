@@ -18,6 +18,7 @@ pub fn refusal_number(no: Refusal) -> u32
         Refusal::Block => 3,
         Refusal::Table => 11,
         Refusal::Session => 4,
+        Refusal::NothingHeld => 5,
         Refusal::TooManyOpen => 6,
         Refusal::QueueFull => 7,
         Refusal::TokensUsed => 8,

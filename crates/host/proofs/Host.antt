@@ -26,7 +26,6 @@ use Rattle.export.specs.Interface.{count_of}
 use Rattle.host.specs.Host.{told, Room, fields_taken, text_taken, event_read, events_read, area_read, run_read, HostDemand3}
 use Rattle.export.proofs.Fields.{text-read}
 use Rattle.host.proofs.Told.{events-told}
-use Rattle.export.proofs.Bounded.{take_most}
 use Rattle.export.proofs.HandedOut.{counted, events_back}
 
 -- ---- a text
@@ -36,6 +35,11 @@ unfolding text_taken text_left
 taken b t h k =
     rw (le-ltb (length t) TEXT_MOST k, ne_eqb (length b) NONE (λ z. omega arith), splice_eq b t 0 (omega arith))
     (ap (λ (l : List ℕ). some l) (take-append_seam b (drop (0 + length b) t)))
+
+take_most : (n : ℕ) (l : List ℕ) → length (take n l) ≤ n
+take_most zero l = omega arith
+take_most (suc n) [] = omega arith
+take_most (suc n) (b ∷ l) = omega (arith, take_most n l)
 
 -- of an event in range
 text-taken :

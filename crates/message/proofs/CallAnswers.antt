@@ -13,7 +13,7 @@ use Rattle.session.specs.Session.{Wait, Session}
 use Rattle.session.specs.Area.{encode, decode, encode_answer}
 use Rattle.session.specs.Builder.{Keyboard, keyboard_of, break_table_of}
 use Rattle.session.specs.Calls.{Sort, sort_of, Effect, effect_of, message_effect, find_wait, resolved, seen, finish_effect}
-use Rattle.session.specs.Questions.{question6, question7, question8, question9, first_no, message_questions, finish_questions, session_questions}
+use Rattle.session.specs.Questions.{question5, question6, question7, question8, question9, first_no, message_questions, finish_questions, session_questions}
 use Rattle.session.specs.Answers.{Outcome, refused, outcome_of, refusal_number, Said, open_said, finish_said, said_token, result_by, left_by, open_of, finish_of}
 use Rattle.session.specs.declared.ProcResult.{ProcResult}
 use Rattle.session.specs.declared.OpenAnswer.{OpenAnswer}
@@ -166,15 +166,16 @@ pub told_done :
     Does (finished_by s b r u q) z w → (u ≡ t) × (q ≡ p) → Does (finished_by s b r t p) z w
 told_done s b r t p h e = rw (← e.0, ← e.1) h
 
--- ---- 6 to 9
+-- ---- 5 to 9
 
 pub asked_passes :
     (s : Session) (b : Keyboard) (m : Message) (k : Sort) {p : Asked} → as_no p ≡ first_no (message_questions s b m k) → p ≡ a.Passed → Passes s b m k
 unfolding as_no message_questions
 asked_passes s b m k late e =
     let z : none ≡ first_no (message_questions s b m k) = rw e at late in
-    let six = first-passed 6 (question6 s k) _ z in
+    let five = first-passed 5 (question5 s k) _ z in
+    let six = first-passed 6 (question6 s k) _ five.1 in
     let seven = first-passed 7 (question7 s b k) _ six.1 in
     let eight = first-passed 8 (question8 s b k) _ seven.1 in
     let nine = first-passed 9 (question9 s m k) _ eight.1 in
-    record { entries = seven.0; tokens = eight.0; units = nine.0 }
+    record { held = five.0; entries = seven.0; tokens = eight.0; units = nine.0 }

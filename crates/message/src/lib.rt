@@ -52,7 +52,7 @@ pub fn open(
     let sort = questions::sorts::sort_of(kind, wparam, lparam);
     let late = questions::ask_message(session, state, block, sort, wparam);
     if let Asked::Failed(no) = late {
-        return answered(OpenAnswer::Refused(no), res); // 6 to 9
+        return answered(OpenAnswer::Refused(no), res); // 5 to 9
     }
     let h = record::read::header_at(session);
     let after = crate::opening::result_after(sort, h.held, kind, res);

@@ -116,16 +116,12 @@ fn open_char(session: &mut [u8], answers: &mut [u8], wparam: u64) -> OpenAnswer
 
 // ---- messages that are answered whole
 
-// SCOPE 4.4: a dead character completes the held press, behind the queue's last entry or straight out of an empty one. SCOPE 3.3: with none
-// held it does nothing.
+// SCOPE 4.4: a dead character completes the held press, behind the queue's last entry or straight out of an empty one.
 fn answer_dead_char(session: &mut [u8], answers: &mut [u8]) -> OpenAnswer
-    requires { IsArea session.old × (is_held (decode session.old).held ≡ true → HasRoom session.old) × (length answers.old ≡ AREA) }
+    requires { HasRoom session.old × (is_held (decode session.old).held ≡ true) × (length answers.old ≡ AREA) }
     ensures { Gives (dead_char_answered (decode session.old) (decode session.old).held) result session.new answers.new }
 {
     let h = record::read::header_at(session);
-    if !h.held {
-        return open_none(answers); // no press to complete
-    }
     queue::held_event::put_dead_event(session, answers, h.count as usize);
     queue::held_press::forget_held(session);
     if h.count == 0 { // before the dead character

@@ -88,16 +88,6 @@ module _ (s : Session) (b : Keyboard) {k : MessageSort} where
     unfolding new_entries as_sort
     no_char h = rw (is, sym ep ∙ h)
 
-  -- a dead character
-  module _ (is : k ≡ m.DeadChar) {p : Bool} (ep : p ≡ is_held s.held) where
-    pub one-dead-char : p ≡ true → 1 ≡ new_entries s b (as_sort k)
-    unfolding new_entries as_sort
-    one-dead-char h = rw (is, sym ep ∙ h)
-
-    pub no_dead-char : p ≡ false → 0 ≡ new_entries s b (as_sort k)
-    unfolding new_entries as_sort
-    no_dead-char h = rw (is, sym ep ∙ h)
-
   -- a focus change
   module _ {st : ElementState} (is : k ≡ m.Focus st) {c : ℕ} (ec : c ≡ length s.entries) where
     pub no_focus : c ≡ 0 → 0 ≡ new_entries s b (as_sort k)

@@ -16,7 +16,7 @@ use Rattle.session.specs.Session.{Session}
 use Rattle.session.specs.Area.{session_ok}
 use Rattle.session.specs.Builder.{Keyboard}
 use Rattle.session.specs.Calls.{Sort}
-use Rattle.session.specs.Questions.{new_entries, units_after, last_token, is_token, question1, question6, question7, question8, question9, question10, first_no, message_questions, finish_questions}
+use Rattle.session.specs.Questions.{new_entries, units_after, last_token, is_token, question1, question5, question6, question7, question8, question9, question10, first_no, message_questions, finish_questions}
 use Rattle.questions.specs.Asked.{to_every}
 
 -- ---- one question, with the answer p to it
@@ -98,60 +98,70 @@ module _ (x y state block table : List ℕ) where
             pub early_passed : q ≡ true → Early none
             early_passed h = fourth (passed 4 _ _ (sym is_area ∙ h) none_left)
 
--- ---- 6 to 9
+-- ---- 5 to 9
 
 module _ (s : Session) (b : Keyboard) (m : Message) (k : Sort) where
-  abbrev Late : Option ℕ → Type 0
-  Late r = r ≡ first_no (message_questions s b m k)
+  abbrev Five : Option ℕ → Type 0
+  Five r = r ≡ first_no (message_questions s b m k)
 
   -- those from one question on
+  abbrev From6 : List (ℕ × Bool)
+  From6 = (6, question6 s k) ∷ (7, question7 s b k) ∷ (8, question8 s b k) ∷ (9, question9 s m k) ∷ []
+
   abbrev From7 : List (ℕ × Bool)
   From7 = (7, question7 s b k) ∷ (8, question8 s b k) ∷ (9, question9 s m k) ∷ []
 
   abbrev From8 : List (ℕ × Bool)
   From8 = (8, question8 s b k) ∷ (9, question9 s m k) ∷ []
 
-  module _ {q : Bool} (eq : q ≡ question6 s k) where
-    pub no_opening : q ≡ false → Late (some 6)
+  module _ {p : Bool} (ep : p ≡ question5 s k) where
+    pub no_press : p ≡ false → Five (some 5)
     unfolding message_questions
-    no_opening h = failed 6 _ _ (sym eq ∙ h)
+    no_press h = failed 5 _ _ (sym ep ∙ h)
 
-    module _ (may : q ≡ true) {c n : ℕ} (ec : c ≡ length s.entries) (en : n ≡ new_entries s b k) where
-      entries : leb (c + n) ENTRIES_MOST ≡ question7 s b k
-      unfolding question7
-      entries = rw (ec, en)
-
-      seventh : {r : Option ℕ} → r ≡ first_no From7 → Late r
+    module _ (press : p ≡ true) {q : Bool} (eq : q ≡ question6 s k) where
+      sixth : {r : Option ℕ} → r ≡ first_no From6 → Five r
       unfolding message_questions
-      seventh = passed 6 _ _ (sym eq ∙ may)
+      sixth = passed 5 _ _ (sym ep ∙ press)
 
-      pub no_entry : ENTRIES_MOST < c + n → Late (some 7)
-      no_entry h = seventh (failed 7 _ _ (sym entries ∙ lt-leb (c + n) ENTRIES_MOST h))
+      pub no_opening : q ≡ false → Five (some 6)
+      no_opening h = sixth (failed 6 _ _ (sym eq ∙ h))
 
-      module _ (fit : c + n ≤ ENTRIES_MOST) {t : ℕ} (et : t ≡ s.handed) where
-        tokens : leb (t + n) TOKENS_MOST ≡ question8 s b k
-        unfolding question8
-        tokens = rw (et, en)
+      module _ (may : q ≡ true) {c n : ℕ} (ec : c ≡ length s.entries) (en : n ≡ new_entries s b k) where
+        entries : leb (c + n) ENTRIES_MOST ≡ question7 s b k
+        unfolding question7
+        entries = rw (ec, en)
 
-        eighth : {r : Option ℕ} → r ≡ first_no From8 → Late r
-        eighth h = seventh (passed 7 _ _ (sym entries ∙ le-leb (c + n) ENTRIES_MOST fit) h)
+        seventh : {r : Option ℕ} → r ≡ first_no From7 → Five r
+        seventh h = sixth (passed 6 _ _ (sym eq ∙ may) h)
 
-        pub no-token : TOKENS_MOST < t + n → Late (some 8)
-        no-token h = eighth (failed 8 _ _ (sym tokens ∙ lt-leb (t + n) TOKENS_MOST h))
+        pub no_entry : ENTRIES_MOST < c + n → Five (some 7)
+        no_entry h = seventh (failed 7 _ _ (sym entries ∙ lt-leb (c + n) ENTRIES_MOST h))
 
-        module _ (left : t + n ≤ TOKENS_MOST) {u : ℕ} (eu : u ≡ units_after s.held m k) where
-          units : leb u UNITS_MOST ≡ question9 s m k
-          unfolding question9
-          units = rw eu
+        module _ (fit : c + n ≤ ENTRIES_MOST) {t : ℕ} (et : t ≡ s.handed) where
+          tokens : leb (t + n) TOKENS_MOST ≡ question8 s b k
+          unfolding question8
+          tokens = rw (et, en)
 
-          ninth : {r : Option ℕ} → r ≡ first_no ((9, question9 s m k) ∷ []) → Late r
-          ninth h = eighth (passed 8 _ _ (sym tokens ∙ le-leb (t + n) TOKENS_MOST left) h)
+          eighth : {r : Option ℕ} → r ≡ first_no From8 → Five r
+          eighth h = seventh (passed 7 _ _ (sym entries ∙ le-leb (c + n) ENTRIES_MOST fit) h)
 
-          pub no_unit : UNITS_MOST < u → Late (some 9)
-          no_unit h = ninth (failed 9 _ _ (sym units ∙ lt-leb u UNITS_MOST h))
+          pub no-token : TOKENS_MOST < t + n → Five (some 8)
+          no-token h = eighth (failed 8 _ _ (sym tokens ∙ lt-leb (t + n) TOKENS_MOST h))
 
-          pub late_passed : u ≤ UNITS_MOST → Late none
-          late_passed h = ninth (passed 9 _ _ (sym units ∙ le-leb u UNITS_MOST h) none_left)
+          module _ (left : t + n ≤ TOKENS_MOST) {u : ℕ} (eu : u ≡ units_after s.held m k) where
+            units : leb u UNITS_MOST ≡ question9 s m k
+            unfolding question9
+            units = rw eu
+
+            ninth : {r : Option ℕ} → r ≡ first_no ((9, question9 s m k) ∷ []) → Five r
+            ninth h = eighth (passed 8 _ _ (sym tokens ∙ le-leb (t + n) TOKENS_MOST left) h)
+
+            pub no_unit : UNITS_MOST < u → Five (some 9)
+            no_unit h = ninth (failed 9 _ _ (sym units ∙ lt-leb u UNITS_MOST h))
+
+            pub five-passed : u ≤ UNITS_MOST → Five none
+            five-passed h = ninth (passed 9 _ _ (sym units ∙ le-leb u UNITS_MOST h) none_left)
 
 -- ---- 10
 

@@ -1,4 +1,4 @@
-// The questions that a call is put through (SCOPE 6; SCOPE and a number is a clause of docs/SCOPE.md): 1 to 3, 11 and 4 put to every call, 6 to 9
+// The questions that a call is put through (SCOPE 6; SCOPE and a number is a clause of docs/SCOPE.md): 1 to 3, 11 and 4 put to every call, 5 to 9
 // to calls that bring a message, 10 to finishes. Nothing here takes an area by `&mut`, so a refused call changes no byte.
 pub mod check;
 pub mod sorts;
@@ -8,7 +8,7 @@ ghost use Rattle.lookup.specs.Block.{block_ok};
 ghost use Rattle.session.specs.Area.{decode};
 ghost use Rattle.session.specs.Calls.{char};
 ghost use Rattle.session.specs.Limits.{ENTRIES_MOST};
-ghost use Rattle.session.specs.Questions.{first_no, opens, new_entries, units_after, question6, message_questions, finish_questions};
+ghost use Rattle.session.specs.Questions.{first_no, opens, new_entries, units_after, question5, question6, message_questions, finish_questions};
 ghost use Rattle.event.specs.Written.{keyboard_at};
 ghost use Rattle.queue.specs.Room.{IsArea};
 ghost use Rattle.questions.specs.Asked.{as_no, to_every};
@@ -72,8 +72,7 @@ fn opens(session: &[u8], sort: MessageSort) -> bool
     }
 }
 
-// SCOPE 6.0: how many entries it needs, and so many tokens. Focus on an empty queue needs none, nor a character or a dead character with no
-// press held.
+// SCOPE 6.0: how many entries it needs, and so many tokens. Focus on an empty queue needs none.
 fn new_entries(session: &[u8], state: &[u8], block: &[u8], sort: MessageSort) -> usize
     requires { IsArea session.now × (block_ok block.now ≡ true) }
     ensures { (result ≡ new_entries (decode session.now) (keyboard_at state.now block.now) (as_sort sort)) × (result ≤ ENTRIES_MOST) }
@@ -88,12 +87,7 @@ fn new_entries(session: &[u8], state: &[u8], block: &[u8], sort: MessageSort) ->
             }
             0
         }
-        MessageSort::DeadChar => {
-            if h.held {
-                return 1; // to complete it in
-            }
-            0
-        }
+        MessageSort::DeadChar => 1,
         MessageSort::Focus(st) => {
             if h.count == 0 {
                 return 0;
@@ -135,6 +129,22 @@ fn units_after(session: &[u8], sort: MessageSort, wparam: u64) -> usize
 
 // ---- the questions that are put to a session
 
+// Question 5: for a dead character, whether a press is held.
+fn has_press(session: &[u8], sort: MessageSort) -> bool
+    requires { IsArea session.now }
+    ensures { result ≡ question5 (decode session.now) (as_sort sort) }
+{
+    let h = record::read::header_at(session);
+    match sort {
+        MessageSort::KeyDown => true,
+        MessageSort::KeyUp => true,
+        MessageSort::Char => true,
+        MessageSort::DeadChar => h.held,
+        MessageSort::Focus(_) => true,
+        MessageSort::Ignored => true,
+    }
+}
+
 // Question 6: to open, whether fewer than OPEN_MOST are open.
 fn may_open(session: &[u8], sort: MessageSort) -> bool
     requires { IsArea session.now }
@@ -146,7 +156,7 @@ fn may_open(session: &[u8], sort: MessageSort) -> bool
     queue::pending::open_count(session) < OPEN_MOST
 }
 
-// 6 to 9, put to calls that bring a message.
+// 5 to 9, put to calls that bring a message.
 pub fn ask_message(
     session: &[u8],
     state: &[u8],
@@ -157,6 +167,9 @@ pub fn ask_message(
     requires { IsArea session.now × (block_ok block.now ≡ true) }
     ensures { (kind lparam : ℕ) → as_no result ≡ first_no (message_questions (decode session.now) (keyboard_at state.now block.now) (record { kind = kind; wparam = wparam; lparam = lparam }) (as_sort sort)) }
 {
+    if !has_press(session, sort) {
+        return Asked::Failed(Refusal::NothingHeld);
+    }
     if !may_open(session, sort) {
         return Asked::Failed(Refusal::TooManyOpen);
     }
@@ -171,7 +184,7 @@ pub fn ask_message(
     if UNITS_MOST < units_after(session, sort, wparam) {
         return Asked::Failed(Refusal::TooManyUnits);
     }
-    Asked::Passed // 6 to 9
+    Asked::Passed // 5 to 9
 }
 
 // Question 10, put to finishes: whether the token is that of the latest open message.

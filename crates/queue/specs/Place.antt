@@ -1,7 +1,6 @@
--- Where the first entry that carries a token stands in the queue; the token of the latest open message.
+-- Where the first entry that carries a token stands in the queue.
 -- Assumes nothing.
 use Rattle.std.specs.Prelude.{◌≡◌, List, [], ◌∷◌, ℕ, suc, ◌<◌, eqb, length}
-use Rattle.std.proofs.Math.Option.{Option, some, none}
 use Rattle.area.specs.Pick.{pick}
 use Rattle.session.specs.Session.{Entry, token_of}
 use Rattle.session.specs.Area.{decode}
@@ -17,8 +16,3 @@ pub record StandsAt (x : List ℕ) (t place : ℕ) : Type 0 where
   pub area : IsArea x
   pub found : place ≡ place_of_token t (decode x).entries
   pub within : place < length (decode x).entries
-
--- a token, or a given number where there is none
-abbrev pub token_or : ℕ → Option ℕ → ℕ
-token_or other none = other
-token_or other (some t) = t

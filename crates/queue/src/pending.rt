@@ -11,7 +11,7 @@ ghost use Rattle.session.specs.Limits.{AREA, ENTRIES_MOST, TOKENS_MOST, COUNT_AT
 ghost use Rattle.session.specs.Questions.{last_token, is_token};
 ghost use Rattle.session.specs.Session.{press, release, character, info_fits, event_fits, open_count};
 ghost use Rattle.queue.specs.Changed.{with_event, with_resolved, emptied};
-ghost use Rattle.queue.specs.Place.{place_of_token, StandsAt, token_or};
+ghost use Rattle.queue.specs.Place.{place_of_token, StandsAt};
 ghost use Rattle.queue.specs.Room.{HasRoom, IsArea};
 ghost use Rattle.queue.specs.Stands.{event_place};
 
@@ -133,33 +133,22 @@ pub fn find(session: &[u8], token: PendingMessageToken) -> usize
     place
 }
 
-// The token of the latest open message; a given number where none is open.
-pub fn latest_or(session: &[u8], other: u32) -> u32
-    requires { IsArea session.now }
-    ensures { result ≡ token_or other (last_token (decode session.now).entries) }
-{
-    let h = record::read::header_at(session);
-    let n = h.count as usize;
-    let mut i: usize = 0;
-    let mut latest = other;
-    while i < n {
-        if session[ENTRIES_AT + ENTRY_SIZE * i + 2] == 0 {
-            latest = area::get_u16(session, ENTRIES_AT + ENTRY_SIZE * i) as u32;
-        }
-        i += 1;
-    }
-    latest
-}
-
 // SCOPE 6.10: whether the token is that of the latest open message.
 pub fn is_latest(session: &[u8], token: PendingMessageToken) -> bool
     requires { IsArea session.now }
     ensures { result ≡ is_token token.0 (last_token (decode session.now).entries) }
 {
-    if token.0 == 0 {
-        return token.0 == latest_or(session, 1);
+    let h = record::read::header_at(session);
+    let n = h.count as usize;
+    let mut i: usize = 0;
+    let mut latest = false;
+    while i < n {
+        if session[ENTRIES_AT + ENTRY_SIZE * i + 2] == 0 {
+            latest = token.0 == area::get_u16(session, ENTRIES_AT + ENTRY_SIZE * i) as u32;
+        }
+        i += 1;
     }
-    token.0 == latest_or(session, 0)
+    latest
 }
 
 // How many messages are open.

@@ -1,122 +1,514 @@
-// Replays a trace from standard input, with the layout block and the break table in the files that the two arguments name, and prints what its
-// steps say. A file that is not named, is missing or can't be read counts as empty.
-ghost use Rattle.io.specs.Counts.{IsPrefixLen};
+// Replays calls with tao's own answers (data/calls, whose form oracle/README.md describes), and says where an answer is another.
+use event::peeked::Peeked;
+use session::{ANSWER_EVENT_SIZE, AREA_SIZE, COUNT_AT, PendingMessageToken, ProcResult};
+use show::{Said, byte_at, decimal, text, u16_at, u32_at, u64_at};
 
-use libc::{STDIN_FILENO, STDOUT_FILENO};
-use lines::part;
-use playback::printing::Went;
-use playback::{STEPS_MOST, Step, TRACE_MOST};
-use session::{AREA_SIZE, KEY_STATE_SIZE};
+// ---- the file
 
-// ---- what is read
-
-// A byte more than a trace, a block or a table may have: a longer one is seen as longer.
-const SPACE: usize = 65537;
-
-// Reads a file whole, or as much of it as there is room for, and answers how many bytes that are: none where it can't be read.
-fn read(fd: i32, space: &mut [u8]) -> usize
-    ensures { IsPrefixLen result space.new }
-{
-    if fd < 0 {
-        return 0;
-    }
-    let n = io::read_full(fd, space);
-    let mut more = [0u8; 1];
-    if libc::read(fd, &mut more) < 0 {
-        return 0; // it was no end but a failure
-    }
-    n
+fn wide(x: u8) -> usize {
+    x as usize
 }
 
-// Reads the file that an argument names.
-fn read_named(i: usize, space: &mut [u8]) -> usize
-    ensures { IsPrefixLen result space.new }
-{
-    let mut name = io::buffer();
-    let n = os::arg(i, &mut name);
-    let fd = os::open_read(&name[..n]);
-    let got = read(fd, space);
-    if 0 <= fd {
-        libc::close(fd);
+// The place behind a byte of the file.
+fn behind(d: &[u8], at: usize) -> usize {
+    if at < d.len() {
+        return at + 1;
     }
-    got
+    at
 }
 
-// ---- the replay
-
-// Prints the first bytes of the buffer: whether somebody takes them.
-fn print(out: &[u8], n: usize) -> bool {
-    io::write_all(STDOUT_FILENO, part(out, 0, n))
+// Unpacks a field from `from` on, and answers the place behind it.
+fn unpack(d: &[u8], from: usize, out: &mut [u8]) -> usize {
+    show::fill(out, 0);
+    let mut at = from;
+    let mut n: usize = 0;
+    while n < out.len() {
+        let zeros = wide(byte_at(d, at));
+        at = behind(d, at);
+        if 255 <= zeros {
+            return at;
+        }
+        if out.len() - n <= zeros {
+            return at;
+        }
+        out[n + zeros] = byte_at(d, at);
+        at = behind(d, at);
+        n = n + zeros + 1;
+    }
+    at
 }
 
-fn is_over(s: Step) -> bool {
-    match s {
-        Step::Over => true,
-        Step::Refused(_, _) => false,
-        Step::Moved(_) => false,
-        Step::Called(_) => false,
+// A part of the file.
+#[derive(Drop)]
+struct Part {
+    from: usize,
+    to: usize,
+}
+
+// The part of that many bytes from `from` on; empty where the file ends before.
+fn part_from(d: &[u8], from: usize, count: usize) -> Part {
+    if d.len() < from {
+        return Part { from: 0, to: 0 };
+    }
+    if d.len() - from < count {
+        return Part { from: 0, to: 0 };
+    }
+    Part {
+        from,
+        to: from + count,
     }
 }
 
-// Prints what a step says, and makes the next one.
-fn next(
+fn bytes_of(d: &[u8], p: Part) -> &[u8] {
+    let from = p.from;
+    let to = p.to;
+    if to < from {
+        return &d[0..0];
+    }
+    if d.len() < to {
+        return &d[0..0];
+    }
+    &d[from..to]
+}
+
+// The file begins with two lists, of blocks and of break tables: 1 byte says how many there are, and 4 bytes before each how long it is.
+
+// The block or table that starts at a place.
+fn listed_from(d: &[u8], at: usize) -> Part {
+    if d.len() < 4 {
+        return Part { from: 0, to: 0 };
+    }
+    if d.len() - 4 < at {
+        return Part { from: 0, to: 0 };
+    }
+    part_from(d, at + 4, u32_at(d, at) as usize)
+}
+
+// The one of a number, in the list that starts at a place.
+fn listed(d: &[u8], list: usize, number: u8) -> Part {
+    let mut p = listed_from(d, behind(d, list));
+    let mut i: u8 = 0;
+    while i < number {
+        p = listed_from(d, p.to);
+        i += 1;
+    }
+    p
+}
+
+// The place behind a list.
+fn behind_list(d: &[u8], list: usize) -> usize {
+    let count = byte_at(d, list);
+    if count == 0 {
+        return behind(d, list);
+    }
+    let p = listed(d, list, count - 1);
+    p.to
+}
+
+const BLOCKS_AT: usize = 0;
+
+fn tables_at(d: &[u8]) -> usize {
+    behind_list(d, BLOCKS_AT)
+}
+
+// ---- a call
+
+fn as_expected(r: &[u8], s: Said) -> bool {
+    s.what == byte_at(r, 29) && s.number == u32_at(r, 30)
+}
+
+// The message result of a record's nine bytes: 0 or 1, and the value's bits.
+fn result_of(tag: u8, bits: u64) -> ProcResult {
+    if tag == 0 {
+        return ProcResult::DefWindowProc;
+    }
+    ProcResult::Value(show::signed(bits))
+}
+
+// The message result that an open is lent: a new one, or the one that the last open left.
+fn lent_by(r: &[u8], last: ProcResult) -> ProcResult {
+    let tag = byte_at(r, 20);
+    if tag == 2 {
+        return last;
+    }
+    result_of(tag, u64_at(r, 21))
+}
+
+fn peeked_at(r: &[u8]) -> Peeked {
+    if byte_at(r, 24) == 0 {
+        return Peeked::Nothing;
+    }
+    Peeked::Message(u32_at(r, 0), u64_at(r, 4), u64_at(r, 12))
+}
+
+// What a call did otherwise than tao.
+#[derive(Drop)]
+enum Differs {
+    Nowhere,
+    Answer,
+    Result,
+    Session,
+    Events,
+}
+
+// A call: what it did otherwise than tao in its answer and the message result, and that result.
+#[derive(Drop)]
+struct Called {
+    differs: Differs,
+    result: ProcResult,
+}
+
+fn open_differs(r: &[u8], said: Said, res: ProcResult) -> Differs {
+    if !as_expected(r, said) {
+        return Differs::Answer;
+    }
+    if !show::same_result(res, result_of(byte_at(r, 34), u64_at(r, 35))) {
+        return Differs::Result;
+    }
+    Differs::Nowhere
+}
+
+fn open(
+    r: &[u8],
     session: &mut [u8; AREA_SIZE],
     answers: &mut [u8; AREA_SIZE],
-    keys: &mut [u8; KEY_STATE_SIZE],
+    state: &[u8; 256],
     block: &[u8],
     table: &[u8],
-    lines: &[u8],
-    out: &mut [u8; AREA_SIZE],
-    s: Step,
-) -> Step {
-    match playback::printing::print_step(answers, s, out) {
-        Went::Ended(n) => {
-            print(out, n);
-            Step::Over
-        }
-        Went::On(n, c) => {
-            if !print(out, n) {
-                return Step::Over;
-            }
-            if (TRACE_MOST as u64) < c.line {
-                return Step::Over; // no trace has so many lines
-            }
-            playback::advance(session, answers, keys, block, table, lines, c)
+    last: ProcResult,
+) -> Called {
+    let o = message::process_message::lend_result(
+        session,
+        answers,
+        state,
+        block,
+        table,
+        u32_at(r, 0),
+        u64_at(r, 4),
+        u64_at(r, 12),
+        lent_by(r, last),
+    );
+    let a = o.answer;
+    let result = o.result;
+    Called {
+        differs: open_differs(r, show::said_by_open(a), result),
+        result,
+    }
+}
+
+fn finish(
+    r: &[u8],
+    session: &mut [u8; AREA_SIZE],
+    answers: &mut [u8; AREA_SIZE],
+    state: &[u8; 256],
+    block: &[u8],
+    table: &[u8],
+) -> Differs {
+    let token = PendingMessageToken(u32_at(r, 20));
+    let a = message::finish(session, answers, state, block, table, token, peeked_at(r));
+    if !as_expected(r, show::said_by_finish(a)) {
+        return Differs::Answer;
+    }
+    Differs::Nowhere
+}
+
+// Tokens handed out, whether a press is held, the number of entries.
+fn session_differs(r: &[u8], session: &[u8]) -> bool {
+    u16_at(session, 0) != u16_at(r, 43)
+        || byte_at(session, 2) != byte_at(r, 45)
+        || u16_at(session, COUNT_AT) != u16_at(r, 46)
+}
+
+fn areas_differ(r: &[u8], session: &[u8], answers: &[u8], expected: &[u8]) -> Differs {
+    if session_differs(r, session) {
+        return Differs::Session;
+    }
+    if !show::same(answers, expected) {
+        return Differs::Events;
+    }
+    Differs::Nowhere
+}
+
+// ---- what is printed
+
+fn show_count(calls: u64, events: u64) {
+    decimal(calls);
+    text(b" calls, ");
+    decimal(events);
+    text(b" events");
+}
+
+fn show_event_place(at: usize) {
+    if at < 2 {
+        text(b"their number");
+        return;
+    }
+    text(b"event ");
+    decimal(((at - 2) / ANSWER_EVENT_SIZE) as u64);
+    text(b", byte ");
+    decimal(((at - 2) % ANSWER_EVENT_SIZE) as u64);
+}
+
+// What the last call of a script did otherwise than tao; nothing where it did not.
+fn show_difference(d: Differs, answers: &[u8; AREA_SIZE], expected: &[u8; AREA_SIZE]) {
+    match d {
+        Differs::Nowhere => {}
+        Differs::Answer => text(b"another answer\n"),
+        Differs::Result => text(b"another result\n"),
+        Differs::Session => text(b"another session\n"),
+        Differs::Events => {
+            text(b"other events: ");
+            show_event_place(show::first_difference(answers, expected));
+            text(b"\n");
         }
     }
 }
 
-fn replay(block: &[u8], table: &[u8], lines: &[u8]) {
-    let mut session = io::large_buffer(); // zeros: a fresh session
-    let mut answers = io::large_buffer();
-    let mut keys = [0u8; KEY_STATE_SIZE];
-    let mut out = io::large_buffer();
-    let mut s = playback::begin(lines);
-    let mut left: usize = STEPS_MOST;
-    while 0 < left {
-        if is_over(s) {
-            return;
+// ---- scripts
+
+// What was played: the place behind it, calls, events, what the last call did otherwise than tao, and the message result.
+#[derive(Drop)]
+struct Played {
+    at: usize,
+    calls: u64,
+    events: u64,
+    differs: Differs,
+    result: ProcResult,
+}
+
+// Makes the call of a record: 3 an open, 4 a finish, which does not see the message result.
+fn call(
+    what: u8,
+    r: &[u8],
+    session: &mut [u8; AREA_SIZE],
+    answers: &mut [u8; AREA_SIZE],
+    state: &[u8; 256],
+    block: &[u8],
+    table: &[u8],
+    last: ProcResult,
+) -> Called {
+    if what == 3 {
+        return open(r, session, answers, state, block, table, last);
+    }
+    Called {
+        differs: finish(r, session, answers, state, block, table),
+        result: last,
+    }
+}
+
+// One call. A refused one leaves the answer area as it was, so no area is in the file for it.
+fn play_call(
+    d: &[u8],
+    at: usize,
+    session: &mut [u8; AREA_SIZE],
+    answers: &mut [u8; AREA_SIZE],
+    expected: &mut [u8; AREA_SIZE],
+    state: &[u8; 256],
+    block: &[u8],
+    table: &[u8],
+    last: ProcResult,
+) -> Played {
+    let mut r = [0u8; 48];
+    let mut next = unpack(d, behind(d, at), &mut r);
+    let c = call(
+        byte_at(d, at),
+        &r,
+        session,
+        answers,
+        state,
+        block,
+        table,
+        last,
+    );
+    let result = c.result;
+    let mut differs = c.differs;
+    let mut events: u64 = 0;
+    if r[29] != 0 {
+        next = unpack(d, next, expected);
+        events = u16_at(answers, 0) as u64;
+    }
+    if let Differs::Nowhere = differs {
+        differs = areas_differ(&r, session, answers, expected);
+    }
+    Played {
+        at: next,
+        calls: 1,
+        events,
+        differs,
+        result,
+    }
+}
+
+fn unpack_state(d: &[u8], from: usize, state: &mut [u8; 256]) -> usize {
+    unpack(d, from, state)
+}
+
+// One script, from a fresh session, to the next one or the end.
+fn play(
+    d: &[u8],
+    from: usize,
+    session: &mut [u8; AREA_SIZE],
+    answers: &mut [u8; AREA_SIZE],
+    expected: &mut [u8; AREA_SIZE],
+) -> Played {
+    let tables = tables_at(d);
+    let mut state = [0u8; 256];
+    let mut block = Part { from: 0, to: 0 };
+    let mut table = Part { from: 0, to: 0 };
+    let mut result = ProcResult::DefWindowProc;
+    let mut at = from;
+    let mut calls: u64 = 0;
+    let mut events: u64 = 0;
+    let mut turn: usize = 0;
+    record::write::fresh(session);
+    while turn < d.len() {
+        let what = byte_at(d, at);
+        if what < 2 {
+            return Played {
+                at,
+                calls,
+                events,
+                differs: Differs::Nowhere,
+                result,
+            };
         }
-        s = next(
-            &mut session,
-            &mut answers,
-            &mut keys,
-            block,
-            table,
-            lines,
-            &mut out,
-            s,
-        );
-        left -= 1;
+        if what == 2 {
+            at = behind(d, at);
+            block = listed(d, BLOCKS_AT, byte_at(d, at));
+            at = behind(d, at);
+            table = listed(d, tables, byte_at(d, at));
+            at = unpack_state(d, behind(d, at), &mut state);
+        } else {
+            let p = play_call(
+                d,
+                at,
+                session,
+                answers,
+                expected,
+                &state,
+                bytes_of(d, block),
+                bytes_of(d, table),
+                result,
+            );
+            at = p.at;
+            result = p.result;
+            calls = std::num::wrapping_add_u64(calls, p.calls);
+            events = std::num::wrapping_add_u64(events, p.events);
+            let differs = p.differs;
+            match differs {
+                Differs::Nowhere => {}
+                _ => return Played {
+                    at,
+                    calls,
+                    events,
+                    differs,
+                    result,
+                },
+            }
+        }
+        turn += 1;
+    }
+    Played {
+        at,
+        calls,
+        events,
+        differs: Differs::Nowhere,
+        result,
+    }
+}
+
+// One script from its name on, with its line.
+fn play_named(
+    d: &[u8],
+    from: usize,
+    session: &mut [u8; AREA_SIZE],
+    answers: &mut [u8; AREA_SIZE],
+    expected: &mut [u8; AREA_SIZE],
+) -> Played {
+    let length = wide(byte_at(d, from));
+    let name = part_from(d, behind(d, from), length);
+    let p = play(d, name.to, session, answers, expected);
+    text(bytes_of(d, name));
+    text(b": ");
+    show_count(p.calls, p.events);
+    text(b"\n");
+    let differs = p.differs;
+    show_difference(differs, answers, expected);
+    p
+}
+
+// How much was played, and whether tao answered all of it so.
+#[derive(Drop)]
+struct All {
+    scripts: u64,
+    calls: u64,
+    events: u64,
+    same: bool,
+}
+
+fn play_all(d: &[u8]) -> All {
+    let mut session = io::large_buffer();
+    let mut answers = io::large_buffer();
+    let mut expected = io::large_buffer();
+    let mut at = behind_list(d, tables_at(d));
+    let mut scripts: u64 = 0;
+    let mut calls: u64 = 0;
+    let mut events: u64 = 0;
+    let mut turn: usize = 0;
+    while turn < d.len() {
+        if byte_at(d, at) != 1 {
+            return All {
+                scripts,
+                calls,
+                events,
+                same: true,
+            };
+        }
+        let p = play_named(d, behind(d, at), &mut session, &mut answers, &mut expected);
+        at = p.at;
+        scripts = std::num::wrapping_add_u64(scripts, 1);
+        calls = std::num::wrapping_add_u64(calls, p.calls);
+        events = std::num::wrapping_add_u64(events, p.events);
+        let differs = p.differs;
+        match differs {
+            Differs::Nowhere => {}
+            _ => return All {
+                scripts,
+                calls,
+                events,
+                same: false,
+            },
+        }
+        turn += 1;
+    }
+    All {
+        scripts,
+        calls,
+        events,
+        same: true,
+    }
+}
+
+fn replay(d: &[u8]) {
+    let all = play_all(d);
+    decimal(all.scripts);
+    text(b" scripts, ");
+    show_count(all.calls, all.events);
+    if all.same {
+        text(b": all as tao answered\n");
+    } else {
+        text(b": the last call not as tao answered\n");
     }
 }
 
 fn main() {
-    let mut block = [0u8; SPACE];
-    let blocks = read_named(1, &mut block);
-    let mut table = [0u8; SPACE];
-    let tables = read_named(2, &mut table);
-    let mut lines = [0u8; SPACE];
-    let n = read(STDIN_FILENO, &mut lines);
-    replay(&block[..blocks], &table[..tables], &lines[..n]);
+    let fd = os::open_read(b"calls");
+    if fd < 0 {
+        os::fail(b"calls");
+        return;
+    }
+    let mut space = [0u8; 524288];
+    let n = io::read_full(fd, &mut space);
+    libc::close(fd);
+    replay(&space[..n]);
 }

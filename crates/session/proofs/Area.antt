@@ -460,7 +460,7 @@ unfolding held_fits
 held_in_range none f = refl
 held_in_range (some h) f = f.0
 
-pub order_parts :
+order_parts :
     (s : Session) → in_order s ≡ true →
     (rising 0 s.handed s.entries ≡ true) × (length s.entries ≤ ENTRIES_MOST) × (s.handed ≤ TOKENS_MOST) × (units_within s.held ≡ true)
 unfolding in_order

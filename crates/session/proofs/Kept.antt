@@ -21,7 +21,7 @@ use Rattle.session.specs.Builder.{Keyboard, keyboard_of, break_table_of, from_me
 use Rattle.session.specs.Focus.{focus_events}
 use Rattle.session.specs.Session.{Wait, press, release, character, Entry, waiting, complete, Session, token_of, open_count, units_within, event_fits, all_fit, held_fits, wait_fits, entry_fits, entries_fit}
 use Rattle.session.specs.Calls.{Sort, key_down, key_up, char, dead_char, ignored, focus, sort_of, Effect, nothing_done, opening, numbered, behind, char_opened, dead_char_answered, message_effect, seen, holds, more_coming, finish_event, finish_held, wait_in, find_wait, in_place, resolve, is_first, drain, resolved, finish_effect, effect_of}
-use Rattle.session.specs.Questions.{opens, behind_some, new_entries, units_after, question6, question7, question8, question9, first_no, message_questions, finish_questions, session_questions}
+use Rattle.session.specs.Questions.{opens, behind_some, new_entries, units_after, question5, question6, question7, question8, question9, first_no, message_questions, finish_questions, session_questions}
 use Rattle.session.proofs.Lists.{and_true, both, pick-ok}
 use Rattle.session.proofs.Fits.{KeyboardOk, info-fits, held_fits_lem, units-fit, press_fits, dead_fits, char_fits, release_fits, focus_fits, focus_most}
 
@@ -177,20 +177,21 @@ behind_leaves s es h (x ∷ r) q k a b m f u v =
 
 -- ---- a message
 
--- what the questions 6 to 9 come to
+-- what the questions 5 to 9 come to
 record Passes (s : Session) (b : Keyboard) (m : Message) (k : Sort) : Type 0 where
   q6 : question6 s k ≡ true
   q7 : question7 s b k ≡ true
   q8 : question8 s b k ≡ true
   q9 : question9 s m k ≡ true
 
-passes : (b c d e : Bool) → first_no ((6, b) ∷ (7, c) ∷ (8, d) ∷ (9, e) ∷ []) ≡ none → (b ≡ true) × (c ≡ true) × (d ≡ true) × (e ≡ true)
+passes : (a b c d e : Bool) → first_no ((5, a) ∷ (6, b) ∷ (7, c) ∷ (8, d) ∷ (9, e) ∷ []) ≡ none → (b ≡ true) × (c ≡ true) × (d ≡ true) × (e ≡ true)
 unfolding first_no
-passes true true true true q = (refl, refl, refl, refl)
-passes false c d e q = (cc, cc, cc, cc)
-passes true false d e q = (cc, cc, cc, cc)
-passes true true false e q = (cc, cc, cc, cc)
-passes true true true false q = (cc, cc, cc, cc)
+passes true true true true true q = (refl, refl, refl, refl)
+passes false b c d e q = (cc, cc, cc, cc)
+passes true false c d e q = (cc, cc, cc, cc)
+passes true true false d e q = (cc, cc, cc, cc)
+passes true true true false e q = (cc, cc, cc, cc)
+passes true true true true false q = (cc, cc, cc, cc)
 
 char_leaves :
     (t : ℕ) (l : List Entry) (p : Option Held) (b : Keyboard) (m : Message) →
@@ -288,6 +289,6 @@ found_leaves s b r t pk (some w) k q f =
 pub call_leaves : (s : Session) (g : Given) → KeyboardOk (keyboard_of (inputs_of g)) → Keeps s → first_no (session_questions s g) ≡ none → Leaves (effect_of s g)
 unfolding effect_of session_questions message_questions finish_questions
 call_leaves s (brought i m) o k e =
-    let q = passes (question6 s (sort_of m)) (question7 s (keyboard_of i) (sort_of m)) (question8 s (keyboard_of i) (sort_of m)) (question9 s m (sort_of m)) e in
+    let q = passes (question5 s (sort_of m)) (question6 s (sort_of m)) (question7 s (keyboard_of i) (sort_of m)) (question8 s (keyboard_of i) (sort_of m)) (question9 s m (sort_of m)) e in
     message_leaves (sort_of m) s (keyboard_of i) m o k (record { q6 = q.0; q7 = q.1; q8 = q.2; q9 = q.3 })
 call_leaves s (finished i t pk) o k e = found_leaves s (keyboard_of i) (break_table_of i) t (seen pk) (find_wait t s.entries) o k (find_fits t s.entries k.stored)

@@ -1,37 +1,22 @@
--- What a refusal leaves, and what is refused no longer: specs/Refusals.antt has the statements.
+-- What a refusal leaves: specs/Refusals.antt has the statements.
 -- Assumes nothing.
 use mathlib.Core.Path.{◌≡◌, refl, ap, sym, ◌∙◌, subst}
 use mathlib.Core.Bool.{Bool, true, false}
 use mathlib.Core.List.{List, [], ◌∷◌, ◌++◌}
-use mathlib.Core.Logic.{◌⊎◌, ⊎_elim}
 use mathlib.Core.Option.{Option, some, none}
-use Prim.Native.Nat.{ℕ, suc, ◌+◌, ◌≤◌}
+use Prim.Native.Nat.{ℕ, suc}
 use native.Mathlib.Omega.{arith}
-use lib.Dec.{leb}
 use lib.ListN.{length}
-use borrow.Author.Tests.{eq-eqb, le-leb}
-use Rattle.area.specs.Pick.{pick}
-use Rattle.area.specs.Look.{assoc}
-use Rattle.area.specs.Bytes.{Bytes}
-use Rattle.segmentation.specs.Layout.{table_ok}
-use Rattle.lookup.specs.Block.{block_ok}
-use Rattle.session.specs.Limits.{AREA, KEYS, ENTRIES_MOST, TOKENS_MOST}
-use Rattle.session.specs.Given.{Message, Inputs, Given, brought, finished, WM_DEADCHAR, WM_SYSDEADCHAR}
+use Rattle.session.specs.Given.{Message, Inputs, Given, finished}
 use Rattle.session.specs.Session.{Session}
-use Rattle.session.specs.Area.{encode, decode, session_ok, encode_answer}
-use Rattle.session.specs.Event.{Held}
-use Rattle.session.specs.Builder.{Keyboard, keyboard_of}
-use Rattle.session.specs.Calls.{dead_char, sort_of, nothing_done, dead_char_answered, message_effect, effect_of}
-use Rattle.session.specs.Questions.{opens, new_entries, units_after, question1, question2, question3, question11, question6, question7, question8, question9, first_no, message_questions, finish_questions, session_questions}
-use Rattle.session.specs.Answers.{Outcome, refused, answered, questions, outcome_by, outcome_of, zero_result, result_by, said_token, left_by, open_of}
+use Rattle.session.specs.Area.{encode}
+use Rattle.session.specs.Questions.{first_no, session_questions}
+use Rattle.session.specs.Answers.{Outcome, refused, answered, questions, outcome_by, outcome_of}
 use Rattle.session.specs.Book.{Arrival, Press, book_step}
 use Rattle.session.specs.Run.{Call, State, Closing, joined, next}
 use Rattle.session.specs.Demand3.{WellFormed, Answered}
-use Rattle.session.specs.Refusals.{TokensOpen, TookNoPart, of_inputs, RefusedForInputs, AnsweredAgain, DeadCharUnheld, NeverFive}
-use Rattle.session.specs.declared.ProcResult.{ProcResult}
-use Rattle.session.specs.declared.ProcResult.TheVariants.{Value}
-use Rattle.session.proofs.Lists.{All}
-use Rattle.session.proofs.Area.{order_parts, session_parts, session_back, session_exact}
+use Rattle.session.specs.Refusals.{TokensOpen, TookNoPart, of_inputs, RefusedForInputs, AnsweredAgain}
+use Rattle.session.proofs.Area.{session_back}
 use Rattle.session.proofs.Queue.{Done, Stack, base, push, opened_of, tokens_of, Wf}
 use Rattle.session.proofs.Steps.{Paper, view}
 use Rattle.session.proofs.Kept.{Keeps}
@@ -124,99 +109,3 @@ answered_again cs t ts r e i p y n f k w =
     subst (λ (l : List ℕ). Answered (outcome_of l k.answers (finished k.inputs t k.peeked) ∷ []))
     (sym (ap (λ (st : State). st.area) kept ∙ ap (λ (st : State). st.area) x.same))
     (again x.stack x.h x.c x.p t ts k x.wf x.keeps (sym (ap (λ (st : State). st.tokens) x.same) ∙ e) w)
-
--- ---- a dead character without a press
-
-dead_sort : (m : Message) → (m.kind ≡ WM_DEADCHAR) ⊎ (m.kind ≡ WM_SYSDEADCHAR) → sort_of m ≡ dead_char
-unfolding sort_of assoc
-dead_sort m e = ⊎_elim (λ h. rw h refl) (λ h. rw h refl) e
-
--- it opens nothing, needs no entry and no token, does nothing, and sets value 0: each for itself, over any session, so that a definition that
--- says otherwise is refused there
-dead-opens : (s : Session) → opens s dead_char ≡ false
-unfolding opens
-dead-opens s = refl
-
-dead_needs : (s : Session) (b : Keyboard) → s.held ≡ none → new_entries s b dead_char ≡ 0
-unfolding new_entries
-dead_needs s b h = rw h refl
-
-dead_does : (s : Session) (h : Option Held) → h ≡ none → dead_char_answered s h ≡ nothing_done s
-unfolding dead_char_answered
-dead_does s h e = rw e refl
-
-dead_sets : (s : Session) (m : Message) (r : ProcResult) → result_by dead_char s m r ≡ Value zero_result
-unfolding result_by
-dead_sets s m r = refl
-
-left-answered :
-    (t : Option ℕ) (x' y' x y : List ℕ) (r r' : ProcResult) →
-    left_by (answered t x' y') x y r r' ≡ record { said = said_token t; result = r'; session = x'; answers = y' }
-unfolding left_by
-left-answered t x' y' x y r r' = refl
-
-dead_passes :
-    (s : Session) (b : Keyboard) (m : Message) → length s.entries ≤ ENTRIES_MOST → s.handed ≤ TOKENS_MOST → s.held ≡ none →
-    first_no (message_questions s b m dead_char) ≡ none
-unfolding first_no message_questions question6 question7 question8 question9 units_after
-dead_passes s b m l t h =
-    let entries : leb (length s.entries + 0) ENTRIES_MOST ≡ true = le-leb (length s.entries + 0) ENTRIES_MOST (omega arith) in
-    let tokens : leb (s.handed + 0) TOKENS_MOST ≡ true = le-leb (s.handed + 0) TOKENS_MOST (omega arith) in
-    rw (dead-opens s, dead_needs s b h, h, entries, tokens) refl
-
-module _ (x y : List ℕ) (r : ProcResult) (i : Inputs) (m : Message) (is : sort_of m ≡ dead_char) (none-held : (decode x).held ≡ none) where
-  dead_asked :
-      length x ≡ AREA → length y ≡ AREA → length i.key_state ≡ KEYS → block_ok i.block ≡ true → table_ok i.table ≡ true → session_ok x ≡ true →
-      length (decode x).entries ≤ ENTRIES_MOST → (decode x).handed ≤ TOKENS_MOST → first_no (questions x y (brought i m)) ≡ none
-  unfolding first_no questions question1 question2 question3 question11 session_questions
-  dead_asked size answers keys block table area l t =
-      rw (eq-eqb (length x) AREA size, eq-eqb (length y) AREA answers, eq-eqb (length i.key_state) KEYS keys, block, table, area, is)
-      (dead_passes (decode x) (keyboard_of i) m l t none-held)
-
-  dead-nothing : effect_of (decode x) (brought i m) ≡ nothing_done (decode x)
-  unfolding effect_of message_effect
-  dead-nothing = rw is (dead_does (decode x) (decode x).held none-held)
-
-  dead_outcome : first_no (questions x y (brought i m)) ≡ none → encode (decode x) ≡ x → outcome_of x y (brought i m) ≡ answered none x (encode_answer [])
-  unfolding outcome_of outcome_by
-  dead_outcome passes exact = rw (passes, dead-nothing, exact) refl
-
-  dead-result : result_by (sort_of m) (decode x) m r ≡ Value zero_result
-  dead-result = rw is (dead_sets (decode x) m r)
-
-pub dead-char_unheld : DeadCharUnheld
-unfolding open_of
-dead-char_unheld x y r i m bytes size area held answers keys block table kind =
-    let is = dead_sort m kind in
-    let exact = session_exact x bytes size area in
-    let order = order_parts (decode x) (session_parts (decode x) exact.0).0 in
-    let passes = dead_asked x y r i m is held size answers keys block table area order.1 order.2 in
-    rw (dead_outcome x y r i m is held passes exact.1, dead-result x y r i m is held, left-answered) refl
-
--- ---- the number that is not used
-
-not_first : (n : ℕ) (b : Bool) (k : ℕ) (o : Option ℕ) → (o ≡ some n → ⊥) → (k ≡ n → ⊥) → pick b o (some k) ≡ some n → ⊥
-not_first n true k o f a e = f e
-not_first n false k o f a e = a cc
-
-not_among : (n : ℕ) (qs : List (ℕ × Bool)) → All (λ (q : ℕ × Bool). q.0 ≡ n → ⊥) qs → first_no qs ≡ some n → ⊥
-unfolding first_no
-not_among n [] a e = let z : ◌≡◌ {A = ℕ} 0 1 = cc in omega arith
-not_among n (q ∷ qs) a e = not_first n q.1 q.0 (first_no qs) (not_among n qs a.1) a.0 e
-
-abbrev NotFive : List (ℕ × Bool) → Type 0
-NotFive = All (λ (q : ℕ × Bool). q.0 ≡ 5 → ⊥)
-
-late_not_five : (s : Session) (g : Given) → NotFive (session_questions s g)
-unfolding session_questions message_questions finish_questions
-late_not_five s (brought i m) = (λ e. omega arith, (λ e. omega arith, (λ e. omega arith, (λ e. omega arith, tt))))
-late_not_five s (finished i t p) = (λ e. omega arith, tt)
-
-not_five : (x y : List ℕ) (g : Given) → NotFive (questions x y g)
-unfolding questions
-not_five x y g =
-    (λ e. omega arith, (λ e. omega arith, (λ e. omega arith, (λ e. omega arith, (λ e. omega arith, late_not_five (decode x) g)))))
-
-pub never_five : NeverFive
-unfolding outcome_of
-never_five x y g e = not_among 5 (questions x y g) (not_five x y g) (number_of _ (decode x) g 5 e)

@@ -21,7 +21,7 @@ use Rattle.session.specs.Builder.{keyboard_of, break_table_of, from_message, hel
 use Rattle.session.specs.Session.{Wait, Session, fresh_session, open_count, event_fits, all_fit}
 use Rattle.session.specs.Area.{encode, decode, encode_answer, decode_answer}
 use Rattle.session.specs.Calls.{Effect, sort_of, nothing_done, opening, message_effect, seen, holds, finish_event, finish_held, find_wait, in_place, resolve, is_first, drain, resolved, finish_effect, effect_of}
-use Rattle.session.specs.Questions.{opens, new_entries, units_after, question1, question2, question3, question11, question6, question7, question8, question9, first_no, message_questions, session_questions}
+use Rattle.session.specs.Questions.{opens, new_entries, units_after, question1, question2, question3, question11, question5, question6, question7, question8, question9, first_no, message_questions, session_questions}
 use Rattle.session.specs.Answers.{Outcome, refused, answered, questions, outcome_by, outcome_of}
 use Rattle.session.specs.Book.{Arrival, Note, Book, empty_book, press_of, note_in, note_unless, book_open, book_message, unless_quit, makes_held, finish_press, book_finish, book_step}
 use Rattle.session.specs.Run.{Call, State, Closing, start, retoken, joined, next, run, closings}
@@ -97,7 +97,7 @@ module _ (i : Inputs) (y : List ℕ) (wparam lparam : ℕ) where
   press_open = between.session
 
   press-answered : first_no (session_questions fresh_session (brought i key_press)) ≡ none
-  unfolding first_no session_questions message_questions question6 question7 question8 question9 opens new_entries units_after open_count fresh_session sort_of assoc
+  unfolding first_no session_questions message_questions question5 question6 question7 question8 question9 opens new_entries units_after open_count fresh_session sort_of assoc
   press-answered = refl
 
   press_passes : WellFormed closing → first_no (asked fresh opened) ≡ none
@@ -259,7 +259,7 @@ module _ (i : Inputs) (y : List ℕ) (wparam : ℕ) where
   both_open = view (push (push (base []) 0 (arrived i y wparam 0) []) 1 inner_arrived []) 2 2 none
 
   inner_answered : first_no (session_questions outer_open.session (brought i inner)) ≡ none
-  unfolding first_no session_questions message_questions question6 question7 question8 question9 opens new_entries units_after open_count sort_of assoc
+  unfolding first_no session_questions message_questions question5 question6 question7 question8 question9 opens new_entries units_after open_count sort_of assoc
   inner_answered = refl
 
   inner_passes : WellFormed (closing i y wparam 0) → Fine outer_open → first_no (asked outer_open (record { given = brought i inner; answers = y })) ≡ none

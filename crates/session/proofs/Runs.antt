@@ -73,7 +73,7 @@ first_above n lo (q ∷ qs) a e = first_step n lo q.1 q.0 (first_no qs) (λ e. f
 
 session_above : (s : Session) (g : Given) → All (λ (q : ℕ × Bool). 4 < q.0) (session_questions s g)
 unfolding session_questions message_questions finish_questions
-session_above s (brought i m) = (omega arith, (omega arith, (omega arith, (omega arith, tt))))
+session_above s (brought i m) = (omega arith, (omega arith, (omega arith, (omega arith, (omega arith, tt)))))
 session_above s (finished i t p) = (omega arith, tt)
 
 -- the questions that are put to every call, 4 being passed

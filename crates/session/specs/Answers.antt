@@ -29,7 +29,7 @@ pub data Outcome : Type 0 where
   refused : ℕ → Outcome
   answered : Option ℕ → List ℕ → List ℕ → Outcome
 
--- SCOPE 6.0: 1 to 3, 11 and 4 are put to every call, 6 to 9 to calls that bring a message, 10 to finishes
+-- SCOPE 6.0: 1 to 3, 11 and 4 are put to every call, 5 to 9 to calls that bring a message, 10 to finishes
 unfoldable pub questions : List ℕ → List ℕ → Given → List (ℕ × Bool)
 questions x y g =
     (1, question1 x y) ∷ (2, question2 g) ∷ (3, question3 g) ∷ (11, question11 g) ∷ (4, session_ok x) ∷ session_questions (decode x) g
@@ -52,6 +52,7 @@ refusal_number no.KeyStateSize = 2
 refusal_number no.Block = 3
 refusal_number no.Table = 11
 refusal_number no.Session = 4
+refusal_number no.NothingHeld = 5
 refusal_number no.TooManyOpen = 6
 refusal_number no.QueueFull = 7
 refusal_number no.TokensUsed = 8

@@ -33,12 +33,12 @@ abbrev pub behind_some : List Entry → ℕ → ℕ
 behind_some [] n = 0
 behind_some (x ∷ r) n = n
 
--- how many entries, and so many tokens, it needs. SCOPE 6.0: focus on an empty queue needs none, nor a character or a dead character with no press held
+-- how many entries, and so many tokens, it needs. SCOPE 6.0: focus on an empty queue needs none
 unfoldable pub new_entries : Session → Keyboard → Sort → ℕ
 new_entries s b key_down = 1
 new_entries s b key_up = 1
 new_entries s b char = pick (is_held s.held) 1 0
-new_entries s b dead_char = pick (is_held s.held) 1 0
+new_entries s b dead_char = 1
 new_entries s b (focus st) = behind_some s.entries (length (focus_events b st))
 new_entries s b ignored = 0
 
@@ -84,6 +84,15 @@ question3 g = block_ok (inputs_of g).block
 unfoldable pub question11 : Given → Bool
 question11 g = table_ok (inputs_of g).table
 
+-- SCOPE 6.5: for 103 and 107, a press is held
+unfoldable pub question5 : Session → Sort → Bool
+question5 s dead_char = is_held s.held
+question5 s key_down = true
+question5 s key_up = true
+question5 s char = true
+question5 s (focus st) = true
+question5 s ignored = true
+
 -- SCOPE 6.6: to open, fewer than 8 are open
 unfoldable pub question6 : Session → Sort → Bool
 question6 s k = pick (opens s k) (ltb (open_count s.entries) OPEN_MOST) true
@@ -110,10 +119,10 @@ unfoldable pub first_no : List (ℕ × Bool) → Option ℕ
 first_no [] = none
 first_no (q ∷ qs) = pick q.1 (first_no qs) (some q.0)
 
--- SCOPE 6.0: 6 to 9 are put to calls that bring a message, 10 to finishes
+-- SCOPE 6.0: 5 to 9 are put to calls that bring a message, 10 to finishes
 unfoldable pub message_questions : Session → Keyboard → Message → Sort → List (ℕ × Bool)
 message_questions s b m k =
-    (6, question6 s k) ∷ (7, question7 s b k) ∷ (8, question8 s b k) ∷ (9, question9 s m k) ∷ []
+    (5, question5 s k) ∷ (6, question6 s k) ∷ (7, question7 s b k) ∷ (8, question8 s b k) ∷ (9, question9 s m k) ∷ []
 
 unfoldable pub finish_questions : Session → ℕ → List (ℕ × Bool)
 finish_questions s t = (10, question10 s t) ∷ []

@@ -1,18 +1,11 @@
--- What a refusal leaves, what demand 3 has closings for, and what is refused no longer.
+-- What a refusal leaves, and what demand 3 has closings for.
 -- Assumes nothing.
-use Rattle.std.specs.Prelude.{◌≡◌, Bool, true, ◌||◌, ℕ, List, [], ◌∷◌, ◌++◌, ◌⊎◌, eqb, length}
-use Rattle.std.proofs.Math.Option.{Option, none}
-use Rattle.area.specs.Bytes.{Bytes}
-use Rattle.segmentation.specs.Layout.{table_ok}
-use Rattle.lookup.specs.Block.{block_ok}
-use Rattle.session.specs.Limits.{AREA, KEYS}
-use Rattle.session.specs.Given.{Message, Inputs, Given, finished, WM_DEADCHAR, WM_SYSDEADCHAR}
-use Rattle.session.specs.Area.{decode, session_ok, encode_answer}
-use Rattle.session.specs.Answers.{Outcome, refused, outcome_of, no_token, zero_result, open_of}
+use Rattle.std.specs.Prelude.{◌≡◌, Bool, true, ◌||◌, ℕ, List, [], ◌∷◌, ◌++◌, eqb, length}
+use Rattle.std.proofs.Math.Option.{Option}
+use Rattle.session.specs.Given.{Message, Inputs, finished}
+use Rattle.session.specs.Answers.{Outcome, refused, outcome_of}
 use Rattle.session.specs.Run.{Call, State, Closing, start, next, run, CallsInRange}
 use Rattle.session.specs.Demand3.{WellFormed, Answered}
-use Rattle.session.specs.declared.ProcResult.{ProcResult}
-use Rattle.session.specs.declared.ProcResult.TheVariants.{Value}
 
 -- Demand 3 has one closing for each token that the answers gave. These are as many as the messages that the book has open, at every point of
 -- a run (SCOPE 7.5: open is meant as the book has it).
@@ -50,17 +43,3 @@ AnsweredAgain =
     (k : Closing) → WellFormed k →
     let left : State = next st (record { given = finished i t p; answers = y }) in
     Answered (outcome_of left.area k.answers (finished k.inputs t k.peeked) ∷ [])
-
--- SCOPE 3.3, 6.5: a 103 or 107 with no press held is answered on the area of every session, whatever is open or waits in it: no token, value
--- 0, the session as it was, no events.
-abbrev pub DeadCharUnheld : Type 0
-DeadCharUnheld =
-    (x y : List ℕ) (r : ProcResult) (i : Inputs) (m : Message) →
-    Bytes x → length x ≡ AREA → session_ok x ≡ true → (decode x).held ≡ none →
-    length y ≡ AREA → length i.key_state ≡ KEYS → block_ok i.block ≡ true → table_ok i.table ≡ true →
-    (m.kind ≡ WM_DEADCHAR) ⊎ (m.kind ≡ WM_SYSDEADCHAR) →
-    open_of x y r i m ≡ record { said = no_token; result = Value zero_result; session = x; answers = encode_answer [] }
-
--- SCOPE 6.5: no call is refused with 5, whatever it is given
-abbrev pub NeverFive : Type 0
-NeverFive = (x y : List ℕ) (g : Given) → outcome_of x y g ≡ refused 5 → ⊥

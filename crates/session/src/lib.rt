@@ -121,6 +121,7 @@ pub enum Refusal {
     Block,
     Table,
     Session,
+    NothingHeld,
     TooManyOpen,
     QueueFull,
     TokensUsed,

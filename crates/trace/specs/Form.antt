@@ -68,13 +68,9 @@ key_at x at =
     on_number (field_at x bits8 comma at) NoLine
     (λ vk n. on_number (field_at x bits8 lf n) NoLine (λ byte next. Key vk byte next))
 
--- copies that one line may ask for
-abbrev pub AGAIN_MOST : ℕ
-AGAIN_MOST = 0x64
-
 -- behind `R,`: n from 1 to 64
 unfoldable pub again_at : List ℕ → ℕ → Line
-again_at x at = on_number (field_at x AGAIN_MOST lf at) NoLine (λ n next. pick (eqb n 0) NoLine (Again n next))
+again_at x at = on_number (field_at x 0x64 lf at) NoLine (λ n next. pick (eqb n 0) NoLine (Again n next))
 
 -- the line at a place
 unfoldable pub line_at : List ℕ → ℕ → Line

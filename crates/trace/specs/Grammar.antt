@@ -5,7 +5,7 @@ use Rattle.std.specs.Prelude.{ℕ, ◌+◌, ◌≤◌, ◌<◌, ◌≡◌, List,
 use Rattle.trace.specs.Numeral.{numeral}
 use Rattle.trace.specs.declared.form.Line.{Line}
 use Rattle.trace.specs.declared.form.Line.TheVariants.{NoLine, Message, Finish, Key, Again}
-use Rattle.trace.specs.Form.{comma, lf, bits8, bits32, bits64, AGAIN_MOST, line_at}
+use Rattle.trace.specs.Form.{comma, lf, bits8, bits32, bits64, line_at}
 
 -- a line, with its LF
 unfoldable pub shown : Line → List ℕ
@@ -23,7 +23,7 @@ Ranged NoLine = ⊥
 Ranged (Message kind wparam lparam next) = (kind ≤ bits32) × (wparam ≤ bits64) × (lparam ≤ bits64)
 Ranged (Finish present kind lparam next) = (present ≤ 1) × (kind ≤ bits32) × (lparam ≤ bits64)
 Ranged (Key vk byte next) = (vk ≤ bits8) × (byte ≤ bits8)
-Ranged (Again n next) = (n ≤ AGAIN_MOST) × (0 < n)
+Ranged (Again n next) = (n ≤ 0x64) × (0 < n)
 
 -- the place behind it
 abbrev pub next_of : Line → ℕ

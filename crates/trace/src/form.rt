@@ -2,9 +2,6 @@
 ghost use Rattle.std.specs.Prelude.{◌≡◌, ◌+◌, ◌≤◌, ◌<◌, length, get_or, drop};
 ghost use Rattle.trace.specs.Form.{digit_of, digits_from, number_at, field_at, message_at, finish_at, key_at, again_at, line_at};
 
-// Copies that one line may ask for.
-pub const AGAIN_MOST: u64 = 0x64;
-
 // A number, with the place behind it.
 #[derive(Drop)]
 pub enum Number {
@@ -149,7 +146,7 @@ fn key_at(x: &[u8], at: usize) -> Line
 fn again_at(x: &[u8], at: usize) -> Line
     ensures { result ≡ again_at x.now at }
 {
-    let Number::Value(n, next) = field_at(x, AGAIN_MOST, b'\n', at) else {
+    let Number::Value(n, next) = field_at(x, 0x64, b'\n', at) else {
         return Line::NoLine;
     };
     if n == 0 {

@@ -1,4 +1,4 @@
-//! The ten questions of docs/SCOPE.md, 6, read plainly: the number of the first one that is answered with no.
+//! The eleven questions of docs/SCOPE.md, 6, read plainly: the number of the first one that is answered with no.
 use crate::{
   block, break_table,
   fields::AREA,
@@ -11,12 +11,12 @@ use kbtypes::LayoutSpec;
 pub enum Sort {
   /// 100, 101, 104, 105; and 102, 106 with a held press, which adds so many units.
   Opens { units: usize },
-  /// 103, 107 with a held press.
+  /// 103, 107.
   DeadCharacter,
   /// 7, 8.
   Focus,
-  /// 104 with F4, 102, 103, 106 or 107 with no held press, an unhandled kind.
-  Nothing,
+  /// 104 with F4, 102 or 106 with no held press, an unhandled kind.
+  Ignored,
 }
 
 /// A surrogate (the whole wParam) adds one unit, a scalar value (the low 32 bits) its one or two, any other code two.
@@ -30,12 +30,12 @@ pub fn units_of(wparam: u64) -> usize {
 
 pub fn sort(session: &Session, kind: u32, wparam: u64) -> Sort {
   match kind {
-    0x104 if wparam == 0x73 => Sort::Nothing,
+    0x104 if wparam == 0x73 => Sort::Ignored,
     0x100 | 0x101 | 0x104 | 0x105 => Sort::Opens { units: 0 },
     0x102 | 0x106 if session.held.is_some() => Sort::Opens { units: units_of(wparam) },
-    0x103 | 0x107 if session.held.is_some() => Sort::DeadCharacter,
+    0x103 | 0x107 => Sort::DeadCharacter,
     0x7 | 0x8 => Sort::Focus,
-    _ => Sort::Nothing,
+    _ => Sort::Ignored,
   }
 }
 
@@ -49,7 +49,7 @@ pub fn focus_events(layout: &LayoutSpec, state: &[u8; 256]) -> usize {
   (0..256).filter(has_event).count()
 }
 
-/// Questions 6 to 9.
+/// Questions 5 to 9.
 pub fn open_refused_in(
   session: &Session,
   layout: &LayoutSpec,
@@ -65,11 +65,13 @@ pub fn open_refused_in(
     Sort::DeadCharacter => (1, 0),
     Sort::Focus if session.entries.is_empty() => (0, 0),
     Sort::Focus => (focus_events(layout, state), 0),
-    Sort::Nothing => (0, 0),
+    Sort::Ignored => (0, 0),
   };
   let opens = matches!(sort, Sort::Opens { .. });
   let held_units = session.held.as_ref().map_or(0, |h| h.units.len());
-  if opens && session.open() >= OPEN {
+  if sort == Sort::DeadCharacter && session.held.is_none() {
+    Some(5)
+  } else if opens && session.open() >= OPEN {
     Some(6)
   } else if session.entries.len() + new_entries > ENTRIES {
     Some(7)

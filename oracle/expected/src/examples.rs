@@ -9,7 +9,7 @@ pub mod scripts;
 pub mod tables;
 
 use boards::Boards;
-use scripts::{Apart, Example, Start, Step};
+use scripts::{Example, Start, Step};
 use tables::Tables;
 
 /// What a step answers.
@@ -25,24 +25,18 @@ const LENT: Slot = Slot::Value(7);
 
 /// The answers of tao, each with what is then to be seen of its builder.
 fn tao(steps: &[Step]) -> Vec<(Answer, Option<Snapshot>)> {
-  let calls: Vec<_> = steps.iter().filter(|s| s.apart.is_none()).map(|s| s.call().for_tao()).collect();
+  let calls: Vec<_> = steps.iter().filter(|s| s.refused.is_none()).map(|s| s.call().for_tao()).collect();
   let calls: Vec<_> = calls.iter().collect();
   let run = run_script(&calls, &vec![LENT; calls.len()]);
   assert!(run.panicked.is_none() && run.problem.is_none(), "{:?} {:?}", run.panicked, run.problem);
   let mut answers = run.answers.into_iter().flatten();
   let mut open = Vec::new();
-  let mut held = false;
-  let answer = |step: &Step| match step.apart {
-    Some(Apart::Refused(number)) => (Answer::Refused(number), None),
-    Some(Apart::Unheld) => {
-      assert!(!held, "a press is held");
-      (Answer::Answered(None, Slot::Value(0), vec![]), None)
-    }
+  let answer = |step: &Step| match step.refused {
+    Some(number) => (Answer::Refused(number), None),
     None => {
       let a = answers.next().expect("an answer for each call");
       let token = a.opened.then(|| a.snapshot.handed - 1);
       open.extend(token);
-      held = a.snapshot.held.is_some();
       if let Body::Finish { token, .. } = step.body {
         assert_eq!(open.pop(), Some(token), "the token is not that of the latest open message");
       }
@@ -117,8 +111,7 @@ fn row(e: &Example) -> String {
 
 const HEAD: &str = "\
 -- Worked examples with tao 0.37.2's own answers, written by oracle/expected (oracle/README.md, not to be edited). Tokens are counted from
--- tao's last empty queue. Calls that SCOPE 6 refuses were not given to tao: it has no such limit or test (6 to 11), nor were 103 and
--- 107 with no press held, at which it panics (SCOPE 3.3).
+-- tao's last empty queue. Calls that SCOPE 6 refuses were not given to tao: it panics there (5) or has no such limit or test (6 to 11).
 -- A finish with WM_QUIT peeked was given to it as one with nothing peeked (SCOPE 3.17).
 -- Assumes nothing.
 use Prim.Native.Nat.{ℕ}

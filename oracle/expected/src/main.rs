@@ -1,5 +1,5 @@
-//! Writes the data files and the expected outputs of the programs under crates/, the worked examples of
-//! crates/examples and the traces that tao's events stand beside, or compares them.
+//! Writes the data files and the expected outputs of the programs under crates/ and the worked examples of
+//! crates/examples, or compares them.
 //! tao gives every answer but those on texts, which Rust's standard library gives.
 use examples::{boards, tables};
 use kbtypes::LayoutSpec;
@@ -8,21 +8,20 @@ use std::{env, fs, path::Path, process::ExitCode};
 mod examples;
 mod keyboard;
 mod locations;
-mod recorded;
+mod replay;
 mod scancodes;
 mod station;
 mod texts;
-mod traces;
 
 /// Path from the repository's folder, and contents.
-type File = (String, Vec<u8>);
+type File = (&'static str, Vec<u8>);
 
 fn files() -> Vec<File> {
   let us = keyboard::us();
   let pages = locations::pages();
-  let recorded = recorded::output(&us);
+  let replay = replay::output(&us);
   let (shift, events) = station::input_and_output(&us);
-  let of_crates: Vec<(&str, Vec<u8>)> = vec![
+  vec![
     ("crates/scancodes/stdout", scancodes::output().into()),
     ("crates/locations/data/locations.block", keyboard::block(&pages)),
     ("crates/locations/stdout", locations::output(&pages).into()),
@@ -38,11 +37,9 @@ fn files() -> Vec<File> {
     ("crates/station/stdout", events.into()),
     ("crates/limits/data/one-key.block", keyboard::block(&limits())),
     ("crates/limits/data/most.breaks", tables::most()),
-    ("crates/recorded/data/calls", recorded.calls),
-    ("crates/recorded/stdout", recorded.stdout.into()),
-  ];
-  let of_crates = of_crates.into_iter().map(|(path, bytes)| (path.to_string(), bytes));
-  of_crates.chain(traces::files(&us)).collect()
+    ("crates/replay/data/calls", replay.calls),
+    ("crates/replay/stdout", replay.stdout.into()),
+  ]
 }
 
 /// One key: the virtual key 31 with the scan code 02, whose character is 1.

@@ -1,7 +1,7 @@
 //! The shift that crates/station reads, and what it is to print: tao's answers.
 use crate::examples::{
   boards::{Board, Boards},
-  scripts::{alone, bring, lparam, press, refused, release, seeing, unheld, Apart, Step},
+  scripts::{alone, bring, lparam, press, refused, release, seeing, Step},
   tables::unicode,
 };
 use kbtypes::{
@@ -137,14 +137,14 @@ impl Shift {
   }
 
   fn refusals(&mut self) {
-    self.lines.push(Line::Title(
-      "# refused: a finish of another token than the latest; answered: a dead character with no press held",
-    ));
+    self
+      .lines
+      .push(Line::Title("# refused: a finish of another token than the latest, a dead character with no press held"));
     let b = self.up();
     self.add([
       release(&b, 0x31, 0x02),
       refused(10, alone(&b, 7)),
-      unheld(bring(&b, 0x103, 0x60, lparam(0x29))),
+      refused(5, bring(&b, 0x103, 0x60, lparam(0x29))),
       alone(&b, 0),
     ]);
   }
@@ -296,7 +296,7 @@ fn input(lines: &[Line], layouts: &[Arc<LayoutSpec>]) -> String {
 /// crates/station/stdout.
 fn output(lines: &[Line]) -> String {
   let asked_tao = |line: &Line| match line {
-    Line::Call(step) if step.apart.is_none() => Some(step.call()),
+    Line::Call(step) if step.refused.is_none() => Some(step.call()),
     _ => None,
   };
   let calls: Vec<_> = lines.iter().filter_map(asked_tao).collect();
@@ -323,16 +323,9 @@ fn output(lines: &[Line]) -> String {
       Line::Call(step) => step,
     };
     out += &asked(step.body);
-    match step.apart {
-      Some(Apart::Refused(number)) => {
-        out += &format!(": refused {number}\n");
-        continue;
-      }
-      Some(Apart::Unheld) => {
-        out += ": opens none, result 0\n";
-        continue;
-      }
-      None => (),
+    if let Some(number) = step.refused {
+      out += &format!(": refused {number}\n");
+      continue;
     }
     let a = answers.next().unwrap();
     match step.body {
@@ -358,28 +351,6 @@ fn output(lines: &[Line]) -> String {
   }
   assert!(answers.next().is_none() && open.is_empty());
   out
-}
-
-/// The parts of the shift that a trace can say, and that have a layout with a file of its own: three cards and a dead key.
-pub fn cards(us: &LayoutSpec) -> Vec<(&'static str, Vec<Step>)> {
-  type Part = fn(&mut Shift);
-  let us = Arc::new(us.clone());
-  let parts: [(&str, Part, Arc<LayoutSpec>); 4] = [
-    ("card", Shift::whole_card, us.clone()),
-    ("focus", Shift::card_with_focus, us.clone()),
-    ("nesting", Shift::card_with_nesting, us),
-    ("dead-key", Shift::dead_key, Arc::new(accent())),
-  ];
-  let steps = |part: Part, layout| {
-    let mut shift = Shift { lines: vec![], layout };
-    part(&mut shift);
-    let call = |line| match line {
-      Line::Call(step) => Some(step),
-      Line::Title(_) | Line::Card => None,
-    };
-    shift.lines.into_iter().filter_map(call).collect()
-  };
-  parts.into_iter().map(|(name, part, layout)| (name, steps(part, layout))).collect()
 }
 
 /// crates/station/stdin and crates/station/stdout.

@@ -11,11 +11,10 @@ use Rattle.session.specs.Event.{Event, Held}
 use Rattle.session.specs.Session.{Entry, Session}
 use Rattle.session.specs.Area.{encode, decode, encode_answer}
 use Rattle.session.specs.Builder.{dead_char_event}
-use Rattle.session.specs.Calls.{nothing_done, numbered, behind, dead_char_answered}
+use Rattle.session.specs.Calls.{numbered, behind, dead_char_answered}
 use Rattle.session.specs.Focus.{focus_events}
-use Rattle.session.specs.Answers.{no_token, open_said}
+use Rattle.session.specs.Answers.{open_said}
 use Rattle.session.specs.declared.ElementState.{ElementState}
-use Rattle.session.specs.declared.OpenAnswer.{OpenAnswer}
 use Rattle.session.specs.declared.OpenAnswer.TheVariants.{OpenedNone}
 use Rattle.queue.specs.Changed.{holding, with_event}
 use Rattle.queue.specs.Room.{IsArea, HasRoom}
@@ -87,15 +86,3 @@ module _ (x : List ℕ) (b : (i : ℕ) → get_or x i 0 < 256) (r : IsArea x) (n
         (n ≡ 0 → ⊥) → {z w : List ℕ} → z ≡ encode (with_event (decode y) v) → w ≡ encode_answer [] →
         Gives (dead_char_answered (decode x) (decode x).held) OpenedNone z w
     dead_waits l q w = rw dead-behind (waits (decode x) (v ∷ []) none (decode x).entries (λ i. l (c ∙ i)) (one_more q) w)
-
--- ---- a dead character with no press held
-
-unheld : (s : Session) (o : Option Held) → o ≡ none → dead_char_answered s o ≡ nothing_done s
-unfolding dead_char_answered
-unheld s o e = rw e refl
-
-pub dead_unheld :
-    (x : List ℕ) → ((i : ℕ) → get_or x i 0 < 256) → IsArea x → (decode x).held ≡ none → {r : OpenAnswer} {y : List ℕ} →
-    (open_said r ≡ no_token) × (y ≡ encode_answer []) → Gives (dead_char_answered (decode x) (decode x).held) r x y
-dead_unheld x b r e p =
-    rw (unheld (decode x) (decode x).held e) (record { said = p.0; session = (own_area x b r).exact; answers = p.1 })

@@ -17,7 +17,7 @@ use Rattle.session.specs.Area.{decode}
 use Rattle.session.specs.Builder.{Keyboard, with_units}
 use Rattle.session.specs.Calls.{Sort, char}
 use Rattle.session.specs.Focus.{focus_events}
-use Rattle.session.specs.Questions.{is_held, behind_some, new_entries, units_after, question7, question8, question9}
+use Rattle.session.specs.Questions.{is_held, behind_some, new_entries, units_after, question5, question7, question8, question9}
 use Rattle.session.specs.declared.ElementState.{ElementState}
 use Rattle.queue.specs.Room.{IsArea, HasRoom}
 use Rattle.questions.specs.Sorts.{as_sort}
@@ -57,10 +57,13 @@ module _ (x : List ℕ) (a : IsArea x) (b : Keyboard) (m : Message) (k : Message
   unfolding as_sort new_entries
   release_room e = one_more (rw e refl)
 
-  -- a dead character, should a press be held
-  pub dead-char_room : k ≡ sort.DeadChar → is_held (decode x).held ≡ true → HasRoom x
+  pub dead-char_room : k ≡ sort.DeadChar → HasRoom x
   unfolding as_sort new_entries
-  dead-char_room e h = one_more (rw (e, h) refl)
+  dead-char_room e = one_more (rw e refl)
+
+  pub dead-char-held : k ≡ sort.DeadChar → is_held (decode x).held ≡ true
+  unfolding as_sort question5
+  dead-char-held e = rw e at p.held
 
   -- a character, should a press be held
   held_room : k ≡ sort.Char → is_held (decode x).held ≡ true → HasRoom x

@@ -4,7 +4,7 @@ use native.Mathlib.Omega.{arith}
 use borrow.Author.Rules.{rules}
 use Rattle.session.specs.Questions.{new_entries}
 use Rattle.questions.specs.Sorts.{as_sort}
-use Rattle.questions.proofs.AsksBySort.{one_char, no_char, one-dead-char, no_dead-char, no_focus, all_focus}
+use Rattle.questions.proofs.AsksBySort.{one_char, no_char, no_focus, all_focus}
 use Rattle.questions.proofs.new_entries.Statement.{statement}
 use Rattle.questions.proofs.new_entries.Tie as tie
 
@@ -28,18 +28,13 @@ returns c =
 enum-told-4 : tie.Need-enum-told-4
 enum-told-4 c = c.match.keys4
 
-returns-2 : tie.Need-returns-2
-returns-2 c =
-    let t = c.before in
-    (one-dead-char _ _ t.enum-told4.given.1 t.before.before.header_at.ensures.1 c.if2.true, omega arith)
-
 enum-known-sort : tie.Need-enum-known-sort
 enum-known-sort c = c.match.keys5
 
-returns-3 : tie.Need-returns-3
-returns-3 c =
+returns-2 : tie.Need-returns-2
+returns-2 c =
     let f = c.before.before.before in
-    (no_focus _ _ f.sort.given.1 f.before.before.header_at.ensures.2 c.if3.true, omega arith)
+    (no_focus _ _ f.sort.given.1 f.before.before.header_at.ensures.2 c.if2.true, omega arith)
 
 focus-count-requires : tie.Need-focus-count-requires
 focus-count-requires c κs = search rules
@@ -47,32 +42,31 @@ focus-count-requires c κs = search rules
 enum-told-5 : tie.Need-enum-told-5
 enum-told-5 c = c.match.keys6
 
+returns-3 : tie.Need-returns-3
+unfolding new_entries as_sort
+returns-3 c = (rw c.enum_told.given.1, omega arith)
+
 returns-4 : tie.Need-returns-4
 unfolding new_entries as_sort
-returns-4 c = (rw c.enum_told.given.1, omega arith)
+returns-4 c = (rw c.enum-told2.given.1, omega arith)
 
 returns-5 : tie.Need-returns-5
-unfolding new_entries as_sort
-returns-5 c = (rw c.enum-told2.given.1, omega arith)
-
-returns-6 : tie.Need-returns-6
-returns-6 c =
+returns-5 c =
     let t = c.before in
     (no_char _ _ t.enum-told3.given.1 t.before.before.header_at.ensures.1 c.if1.false, omega arith)
 
+returns-6 : tie.Need-returns-6
+unfolding new_entries as_sort
+returns-6 c = (rw c.enum-told4.given.1, omega arith)
+
 returns-7 : tie.Need-returns-7
 returns-7 c =
-    let t = c.before in
-    (no_dead-char _ _ t.enum-told4.given.1 t.before.before.header_at.ensures.1 c.if2.false, omega arith)
+    let f = c.before.before.before.before in
+    all_focus _ _ f.sort.given.1 f.before.before.header_at.ensures.2 c.before.if2.false c.focus-count.ensures
 
 returns-8 : tie.Need-returns-8
-returns-8 c =
-    let f = c.before.before.before.before in
-    all_focus _ _ f.sort.given.1 f.before.before.header_at.ensures.2 c.before.if3.false c.focus-count.ensures
-
-returns-9 : tie.Need-returns-9
 unfolding new_entries as_sort
-returns-9 c = (rw c.enum-told5.given.1, omega arith)
+returns-8 c = (rw c.enum-told5.given.1, omega arith)
 
 pub new-entries-spec : {M : Type 1} → statement M
 new-entries-spec =
@@ -84,14 +78,13 @@ new-entries-spec =
     enum-told-3
     returns
     enum-told-4
-    returns-2
     enum-known-sort
-    returns-3
+    returns-2
     focus-count-requires
     enum-told-5
+    returns-3
     returns-4
     returns-5
     returns-6
     returns-7
-    returns-8
-    returns-9)
+    returns-8)

@@ -1,6 +1,7 @@
 -- Loops over the entries of an area: the place of a token, the latest open message.
 -- Assumes nothing.
 use mathlib.Core.Path.{◌≡◌, refl, sym, ◌∙◌}
+use mathlib.Core.Bool.{Bool, false}
 use mathlib.Core.List.{List, ◌∷◌}
 use mathlib.Core.Option.{Option, some, none}
 use Prim.Native.Nat.{ℕ, suc, ◌+◌, ◌-◌, ◌*◌, ◌≤◌, ◌<◌}
@@ -23,7 +24,7 @@ use Rattle.session.specs.Questions.{latest, last_token, is_token}
 use Rattle.record.proofs.read.Entries.{decode_got}
 use Rattle.record.proofs.read.Walk.{entries_got, entry-at, read_as}
 use Rattle.queue.specs.Room.{IsArea}
-use Rattle.queue.specs.Place.{place_of_token, token_or}
+use Rattle.queue.specs.Place.{place_of_token}
 use Rattle.queue.proofs.Areas.{count_most}
 
 -- ---- each entry stands within the area
@@ -58,47 +59,49 @@ module _ (t : ℕ) (x : List ℕ) (i : ℕ) (inv : Sought t x i) where
   unfolding place_of_token
   sought_end h = sym (inv ∙ rw (drop_of_length-le (decode x).entries h, add-zero))
 
--- ---- the latest open message: a loop that has come to entry i, u the token if no entry from there on is open
+-- ---- the latest open message: a loop that has come to entry i, b the answer if no entry from there on is open
 
-latest-or : (d u : ℕ) (o : Option ℕ) → token_or d (latest o u) ≡ token_or u o
-latest-or d u none = refl
-latest-or d u (some v) = refl
+abbrev pub isTokenOr : Bool → ℕ → Option ℕ → Bool
+isTokenOr b t none = b
+isTokenOr b t (some u) = eqb t u
+
+isToken-or : (t : ℕ) (o : Option ℕ) → is_token t o ≡ isTokenOr false t o
+isToken-or t none = refl
+isToken-or t (some u) = refl
+
+latest-or : (b : Bool) (t u : ℕ) (o : Option ℕ) → isTokenOr b t (latest o u) ≡ isTokenOr (eqb t u) t o
+latest-or b t u none = refl
+latest-or b t u (some v) = refl
 
 last-read :
-    (d : ℕ) (l : List ℕ) (r : List Entry) →
-    token_or d (last_token (entry.get l ∷ r)) ≡ pick (eqb (get_or l 2 0) 0) (token_or (num 2 0 l) (last_token r)) (token_or d (last_token r))
+    (b : Bool) (t : ℕ) (l : List ℕ) (r : List Entry) →
+    isTokenOr b t (last_token (entry.get l ∷ r)) ≡ pick (eqb (get_or l 2 0) 0) (isTokenOr (eqb t (num 2 0 l)) t (last_token r)) (isTokenOr b t (last_token r))
 unfolding last_token
-last-read d l r = read_as (λ y. token_or d (last_token (y ∷ r))) l ∙ rw (latest-or d (num 2 0 l) (last_token r))
+last-read b t l r = read_as (λ y. isTokenOr b t (last_token (y ∷ r))) l ∙ rw (latest-or b t (num 2 0 l) (last_token r))
 
-abbrev pub Latest : ℕ → List ℕ → ℕ → ℕ → Type 0
-Latest d x i u = token_or d (last_token (decode x).entries) ≡ token_or u (last_token (drop i (decode x).entries))
+abbrev pub Latest : ℕ → List ℕ → ℕ → Bool → Type 0
+Latest t x i b = is_token t (last_token (decode x).entries) ≡ isTokenOr b t (last_token (drop i (decode x).entries))
 
-module _ (d : ℕ) (x : List ℕ) (i u : ℕ) (inv : Latest d x i u) where
+pub latest-start : (t : ℕ) (x : List ℕ) → Latest t x 0 false
+latest-start t x = isToken-or t (last_token (decode x).entries)
+
+module _ (t : ℕ) (x : List ℕ) (i : ℕ) (b : Bool) (inv : Latest t x i b) where
   module _ (h : i < length (decode x).entries) where
     one :
-        token_or d (last_token (decode x).entries) ≡ pick (eqb (get_or x (ENTRIES_AT + ENTRY_SIZE * i + 2) 0) 0) (token_or (num 2 (ENTRIES_AT + ENTRY_SIZE * i) x) (last_token (drop (i + 1) (decode x).entries))) (token_or u (last_token (drop (i + 1) (decode x).entries)))
+        is_token t (last_token (decode x).entries) ≡ pick (eqb (get_or x (ENTRIES_AT + ENTRY_SIZE * i + 2) 0) 0) (isTokenOr (eqb t (num 2 (ENTRIES_AT + ENTRY_SIZE * i) x)) t (last_token (drop (i + 1) (decode x).entries))) (isTokenOr b t (last_token (drop (i + 1) (decode x).entries)))
     one =
         let l = drop (ENTRIES_AT + ENTRY_SIZE * i) x in
-        inv ∙ rw (entry-at x i h, last-read u l, get_or-drop (ENTRIES_AT + ENTRY_SIZE * i) x 2 0, num-drop 2 0 (ENTRIES_AT + ENTRY_SIZE * i) x, add-zero, add-one i)
+        inv ∙ rw (entry-at x i h, last-read b t l, get_or-drop (ENTRIES_AT + ENTRY_SIZE * i) x 2 0, num-drop 2 0 (ENTRIES_AT + ENTRY_SIZE * i) x, add-zero, add-one i)
 
-    pub latest_open : {v : ℕ} → get_or x (ENTRIES_AT + ENTRY_SIZE * i + 2) 0 ≡ 0 → v ≡ num 2 (ENTRIES_AT + ENTRY_SIZE * i) x → Latest d x (i + 1) v
-    latest_open e f = one ∙ rw (eq-eqb (get_or x (ENTRIES_AT + ENTRY_SIZE * i + 2) 0) 0 e, f)
+    pub latest_open : {u : ℕ} {d : Bool} → get_or x (ENTRIES_AT + ENTRY_SIZE * i + 2) 0 ≡ 0 → u ≡ num 2 (ENTRIES_AT + ENTRY_SIZE * i) x → d ≡ eqb t u → Latest t x (i + 1) d
+    latest_open e f g = one ∙ rw (eq-eqb (get_or x (ENTRIES_AT + ENTRY_SIZE * i + 2) 0) 0 e, g, f)
 
-    pub latest-same : {v : ℕ} → (get_or x (ENTRIES_AT + ENTRY_SIZE * i + 2) 0 ≡ 0 → ⊥) → v ≡ u → Latest d x (i + 1) v
+    pub latest-same : {d : Bool} → (get_or x (ENTRIES_AT + ENTRY_SIZE * i + 2) 0 ≡ 0 → ⊥) → d ≡ b → Latest t x (i + 1) d
     latest-same e g = one ∙ rw (ne_eqb (get_or x (ENTRIES_AT + ENTRY_SIZE * i + 2) 0) 0 e, g)
 
-  pub latest_end : length (decode x).entries ≤ i → u ≡ token_or d (last_token (decode x).entries)
+  pub latest_end : length (decode x).entries ≤ i → b ≡ is_token t (last_token (decode x).entries)
   unfolding last_token
   latest_end h = sym (inv ∙ rw (drop_of_length-le (decode x).entries h))
-
--- whether it is a token, by comparing with it what is another number where there is none
-is-token : (d t : ℕ) (o : Option ℕ) {u : ℕ} → (d ≡ t → ⊥) → u ≡ token_or d o → eqb t u ≡ is_token t o
-is-token d t none h e = ne_eqb t _ (λ q. h (sym (q ∙ e)))
-is-token d t (some v) h e = rw e
-
-pub is-latest :
-    (d t : ℕ) (x : List ℕ) {u : ℕ} → (d ≡ t → ⊥) → u ≡ token_or d (last_token (decode x).entries) → eqb t u ≡ is_token t (last_token (decode x).entries)
-is-latest d t x h e = is-token d t (last_token (decode x).entries) h e
 
 -- ---- the open messages
 

@@ -15,7 +15,7 @@ use Rattle.trace.specs.declared.form.Number.{Number}
 use Rattle.trace.specs.declared.form.Number.TheVariants.{NoNumber, Value}
 use Rattle.trace.specs.declared.form.Line.{Line}
 use Rattle.trace.specs.declared.form.Line.TheVariants.{NoLine, Message, Finish, Key, Again}
-use Rattle.trace.specs.Form.{comma, lf, bits8, bits32, bits64, digit_of, on_number, field_at, message_at, finish_at, key_at, again_at, line_at, AGAIN_MOST}
+use Rattle.trace.specs.Form.{comma, lf, bits8, bits32, bits64, digit_of, on_number, field_at, message_at, finish_at, key_at, again_at, line_at}
 use Rattle.trace.specs.Grammar.{shown, Ranged, Stands, IfLine, Exact}
 use Rattle.trace.proofs.form.Within.{by_pick}
 use Rattle.trace.proofs.form.Exact.{some_byte, field_is, field_back}
@@ -101,12 +101,12 @@ module _ (x : List ℕ) (at : ℕ) (c : get_or x (at + 1) 0 ≡ comma) where
   again_is : get_or x at 0 ≡ 82 → IfLine x at (again_at x (at + 2))
   unfolding again_at shown Ranged
   again_is e =
-      on-number (λ (l : Line). IfLine x at l) (field_at x AGAIN_MOST lf (at + 2)) _ tt
+      on-number (λ (l : Line). IfLine x at l) (field_at x 0x64 lf (at + 2)) _ tt
       (λ n o f. by_pick (λ (l : Line). IfLine x at l) (eqb n 0) NoLine (Again n o) (λ z. tt)
-      (λ z. all n o (eqb-false n 0 z) (field_is x AGAIN_MOST lf (at + 2) n o (omega arith) f)))
+      (λ z. all n o (eqb-false n 0 z) (field_is x 0x64 lf (at + 2) n o (omega arith) f)))
     where
       all :
-          (n o : ℕ) → (n ≡ 0 → ⊥) → (n ≤ AGAIN_MOST) × (o ≡ at + 2 + length (numeral 16 n) + 1) × (drop (at + 2) x ≡ numeral 16 n ++ (lf ∷ drop o x)) →
+          (n o : ℕ) → (n ≡ 0 → ⊥) → (n ≤ 0x64) × (o ≡ at + 2 + length (numeral 16 n) + 1) × (drop (at + 2) x ≡ numeral 16 n ++ (lf ∷ drop o x)) →
           Stands x at (Again n o)
       all n o z f =
           record {
@@ -227,7 +227,7 @@ module _ (x r : List ℕ) (at : ℕ) where
       rw (
         second_byte x at 82 (numeral 16 n ++ (lf ∷ r)) f0,
         first_byte x at 82 (numeral 16 n ++ (lf ∷ r)) f0,
-        field_back x AGAIN_MOST lf (at + 2) n r f1 h.0 ends.1,
+        field_back x 0x64 lf (at + 2) n r f1 h.0 ends.1,
         ne_eqb n 0 (λ k. omega arith),
       )
       (ap (λ (m : ℕ). Again n m) q)

@@ -5,28 +5,20 @@ use super::{
 };
 use kbtypes::{Body, Call, Peeked};
 
-/// What is said of a call that tao is not given.
-#[derive(Clone, Copy, PartialEq, Eq, Debug)]
-pub enum Apart {
-  /// docs/SCOPE.md, 6, refuses it with this number.
-  Refused(u8),
-  /// A dead character with no press held, at which tao panics: it does nothing and sets `result` to value 0 (docs/SCOPE.md, 3.3).
-  Unheld,
-}
-
-/// A call on a keyboard with a break table; `apart` where tao is not given it.
+/// A call on a keyboard with a break table, and the number with which docs/SCOPE.md, 6, refuses it. tao is not given a
+/// refused call.
 #[derive(Clone)]
 pub struct Step {
   pub board: Board,
   pub table: Table,
   pub body: Body,
-  pub apart: Option<Apart>,
+  pub refused: Option<u8>,
 }
 
 impl Step {
   pub fn call(&self) -> Call {
     // 1 to 3, which come before it, are not put to the test here
-    assert_eq!(self.table.ranges.is_none(), self.apart == Some(Apart::Refused(11)), "{}", self.table.name);
+    assert_eq!(self.table.ranges.is_none(), self.refused == Some(11), "{}", self.table.name);
     let table = self.table.ranges.clone().unwrap_or_default();
     Call { body: self.body, state: self.board.state(), layout: self.board.layout.clone(), table }
   }
@@ -56,7 +48,7 @@ pub struct Example {
 }
 
 pub fn step(board: &Board, body: Body) -> Step {
-  Step { board: board.clone(), table: small(), body, apart: None }
+  Step { board: board.clone(), table: small(), body, refused: None }
 }
 
 /// A call that brings a message.
@@ -117,12 +109,7 @@ pub fn before_alt_gr(board: &Board, token: u32, kind: u32) -> Step {
 }
 
 pub fn refused(number: u8, step: Step) -> Step {
-  Step { apart: Some(Apart::Refused(number)), ..step }
-}
-
-/// A dead character with no press held.
-pub fn unheld(step: Step) -> Step {
-  Step { apart: Some(Apart::Unheld), ..step }
+  Step { refused: Some(number), ..step }
 }
 
 fn example(name: &'static str, shows: &'static str, steps: Vec<Step>) -> Example {
@@ -572,30 +559,12 @@ pub fn examples(b: &Boards, t: &Tables) -> Vec<Example> {
       "103 and 107 on an empty queue leave no token handed out",
       held(us, vec![bring(us, 0x107, 0xB4, lparam(0x0D)), release(us, 0x45, 0x12), alone(us, 0)]),
     ),
-    // ---- dead characters that tao is not given: it panics there
+    // ---- refusals, which are those of docs/SCOPE.md, 6: tao panics at 5 and has no limits
     example(
       "nothing-held",
-      "a 103 or 107 with no press held opens nothing, hands out nothing and sets the result; a 102 is ignored; the press behind them is as ever",
-      vec![
-        unheld(dead_character(us, 0xB4)),
-        unheld(bring(us, 0x107, 0, 0)),
-        character(us, 0x31),
-        press(us, 0x31, 0x02),
-        unheld(dead_character(us, 0xB4)),
-        alone(us, 0),
-      ],
+      "a 103 with no press held is refused 5, a 102 is ignored",
+      vec![refused(5, dead_character(us, 0xB4)), refused(5, bring(us, 0x107, 0, 0)), character(us, 0x31)],
     ),
-    example(
-      "nothing-held-any-more",
-      "a second 103 finds no press held: the first one's event is handed out once, straight or behind an open message",
-      {
-        let mut steps = held(us, vec![dead_character(us, 0xB4), unheld(dead_character(us, 0xB4))]);
-        steps.extend(held(us, vec![release(us, 0x45, 0x12)]));
-        steps.extend([dead_character(us, 0xB4), unheld(bring(us, 0x107, 0xB4, lparam(0x0D))), alone(us, 0)]);
-        steps
-      },
-    ),
-    // ---- refusals, which are those of docs/SCOPE.md, 6: tao has no limits
     example(
       "table-refused",
       "a table that is none is refused 11, whatever the call is: an open, a finish, an ignored message, a focus change",
@@ -613,13 +582,12 @@ pub fn examples(b: &Boards, t: &Tables) -> Vec<Example> {
         alone(us, 0),
       ],
     ),
-    example("eight-open", "with eight open a focus message, a 103 with a press held and with none, and ignored ones pass, and a ninth open is refused 6", {
+    example("eight-open", "with eight open a focus message, a 103 and ignored ones pass, and a ninth open is refused 6", {
       let mut steps = held(us, (0..8).map(|_| release(us, 0x31, 0x02)).collect());
       steps.extend([
         refused(6, character(us, 0x31)),
         gain(us_control),
         dead_character(us, 0xB4),
-        unheld(dead_character(us, 0xB4)),
         character(us, 0x31),
         bring(us, 0x104, 0x73, lparam(0x3E)),
         refused(6, press(us, 0x31, 0x02)),
@@ -662,7 +630,7 @@ pub fn examples(b: &Boards, t: &Tables) -> Vec<Example> {
   all.push(Example {
     name: "entries",
     shows:
-      "behind a press and 254 releases inside it: 256 entries pass, 257 are refused 7; focus counts the events that it would write; a 103 with no press held needs no entry; one call hands out all 256",
+      "behind a press and 254 releases inside it: 256 entries pass, 257 are refused 7; focus counts the events that it would write; one call hands out all 256",
     start: {
       let mut calls = vec![press(us, 0x31, 0x02)];
       (1..=254).for_each(|token| calls.extend([release(us, 0x31, 0x02), alone(us, token)]));
@@ -674,7 +642,6 @@ pub fn examples(b: &Boards, t: &Tables) -> Vec<Example> {
       gain(us),
       refused(7, loss(us_control)),
       refused(7, release(us, 0x31, 0x02)),
-      unheld(dead_character(us, 0xB4)),
       alone(us, 0),
       release(us, 0x31, 0x02),
       alone(us, 0),
@@ -682,7 +649,7 @@ pub fn examples(b: &Boards, t: &Tables) -> Vec<Example> {
   });
   all.push(Example {
     name: "tokens",
-    shows: "behind a press and 4,094 fakes inside it: the 4,096th token passes, the 4,097th is refused 8; focus without an event and a 107 with no press held pass; tokens restart",
+    shows: "behind a press and 4,094 fakes inside it: the 4,096th token passes, the 4,097th is refused 8; focus without an event passes; tokens restart",
     start: {
       let mut calls = vec![press(us, 0x31, 0x02)];
       (1..4095).for_each(|token| calls.extend([release(german, 0x11, 0x1D), before_alt_gr(german, token, 0x101)]));
@@ -693,7 +660,6 @@ pub fn examples(b: &Boards, t: &Tables) -> Vec<Example> {
       release(us, 0x31, 0x02),
       refused(8, gain(us_control)),
       gain(us),
-      unheld(bring(us, 0x107, 0xB4, lparam(0x0D))),
       alone(us, 4095),
       refused(8, release(us, 0x31, 0x02)),
       alone(us, 0),

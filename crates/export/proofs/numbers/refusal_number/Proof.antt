@@ -36,6 +36,9 @@ enum-told-9 c = search rules
 enum-told-10 : tie.Need-enum-told-10
 enum-told-10 c = search rules
 
+enum-told-11 : tie.Need-enum-told-11
+enum-told-11 c = search rules
+
 returns : tie.Need-returns
 unfolding refusal_number
 returns c = arm refusal_number c.enum_told.given.1
@@ -76,6 +79,10 @@ returns-10 : tie.Need-returns-10
 unfolding refusal_number
 returns-10 c = arm refusal_number c.enum-told10.given.1
 
+returns-11 : tie.Need-returns-11
+unfolding refusal_number
+returns-11 c = arm refusal_number c.enum-told11.given.1
+
 pub refusal-number-spec : {M : Type 1} → statement M
 refusal-number-spec =
     tie.close
@@ -90,6 +97,7 @@ refusal-number-spec =
     enum-told-8
     enum-told-9
     enum-told-10
+    enum-told-11
     returns
     returns-2
     returns-3
@@ -99,4 +107,5 @@ refusal-number-spec =
     returns-7
     returns-8
     returns-9
-    returns-10)
+    returns-10
+    returns-11)

@@ -6,7 +6,7 @@ use native.Mathlib.Omega.{arith}
 use Rattle.session.specs.Given.{Message}
 use Rattle.session.specs.Builder.{Keyboard}
 use Rattle.event.specs.Written.{keyboard_at}
-use Rattle.message.proofs.opening.RoomPassed.{press_room, release_room, dead-char_room, may_char, focus_fits}
+use Rattle.message.proofs.opening.RoomPassed.{press_room, release_room, dead-char_room, dead-char-held, may_char, focus_fits}
 use Rattle.message.proofs.opening.EffectBySort.{by_press, by_release, by_char, by_dead-char, by_focus, by_ignored}
 use borrow.Author.Rules.{rules}
 use Rattle.message.proofs.opening.open_by.Statement.{statement}
@@ -62,7 +62,7 @@ answer-dead-char-requires c κs =
     let told = c.before.before in
     let s = start told.before.before in
     let e = told.enum-told4.given.1 in
-    (s.pre.0, dead-char_room _ s.pre.0 (board s) (message s 0) _ s.pre.3 e, s.pre.1)
+    (dead-char_room _ s.pre.0 (board s) (message s 0) _ s.pre.3 e, dead-char-held _ s.pre.0 (board s) (message s 0) _ s.pre.3 e, s.pre.1)
 
 enum-known-sort : tie.Need-enum-known-sort
 enum-known-sort c = c.match.keys5
