@@ -12,7 +12,7 @@ use lookup::block::HEAD;
 use session::{AREA_SIZE, COUNT_AT, ENTRIES_AT, ENTRY_SIZE, PendingMessageToken, ProcResult};
 use show::{Said, decimal, text, u16_at};
 
-#[derive(Drop)]
+#[derive(Clone, Copy)]
 struct Message {
     kind: u32,
     wparam: u64,

@@ -16,7 +16,7 @@ use session::{ElementState, KEY_STATE_SIZE, KeyEvent};
 // ---- which keys, in which order
 
 // The keys that are written, by their virtual keys.
-#[derive(Drop)]
+#[derive(Clone, Copy)]
 pub struct FocusKeys {
     pub keys: [u8; KEY_STATE_SIZE],
     pub len: usize,

@@ -12,7 +12,7 @@ ghost use Rattle.event.specs.Peeked.{as_peeked};
 use keys::Key;
 
 // The peeked message (kind, wParam, lParam), or its absence.
-#[derive(Drop)]
+#[derive(Clone, Copy)]
 pub enum Peeked {
     Nothing,
     Message(u32, u64, u64),

@@ -11,7 +11,7 @@ use crate::NativeKeyCode;
 const CODE_CASES: u64 = 195;
 
 // The place of a physical key, in tao's order.
-#[derive(Drop)]
+#[derive(Clone, Copy)]
 pub enum KeyCode {
     Unidentified(NativeKeyCode),
     Backquote,

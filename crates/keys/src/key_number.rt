@@ -12,7 +12,7 @@ const WITH_CHARACTER: u8 = 1;
 
 // A key as numbers: its place in tao's Key; the kind of the native code that it holds, or for a dead key whether it has
 // a character; the value of that code, or the character.
-#[derive(Drop)]
+#[derive(Clone, Copy)]
 pub struct KeyFields {
     pub number: u16,
     pub aux: u8,

@@ -28,7 +28,7 @@ pub const PAUSE: u16 = 48;
 // places: end
 
 // What the platform calls a physical key.
-#[derive(Drop)]
+#[derive(Clone, Copy)]
 pub enum NativeKeyCode {
     Unidentified,
     Windows(u16),
@@ -38,7 +38,7 @@ pub enum NativeKeyCode {
 }
 
 // Which of several keys of one meaning it is.
-#[derive(Drop)]
+#[derive(Clone, Copy)]
 pub enum KeyLocation {
     Standard,
     Left,
@@ -48,7 +48,7 @@ pub enum KeyLocation {
 
 // What a key means. tao's Key has more cases than an enum here can have, so its keys without a value are one case,
 // with their place in tao's Key; a character's text stands beside the key, and Dead(None) and Dead(Some(c)) are Dead and DeadChar(c).
-#[derive(Drop)]
+#[derive(Clone, Copy)]
 pub enum Key {
     Named(u16),
     Character,
@@ -58,7 +58,7 @@ pub enum Key {
 }
 
 // The text that a key gives: none, the character's own, or one byte.
-#[derive(Drop)]
+#[derive(Clone, Copy)]
 pub enum KeyText {
     Nothing,
     Own,

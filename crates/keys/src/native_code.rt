@@ -8,7 +8,7 @@ ghost use Rattle.keys.specs.Native.{native_kind, native_value, native_ok, native
 use crate::{KeyLocation, NativeKeyCode};
 
 // A native code as numbers: which case of NativeKeyCode it is, and the code itself, Android's as its bits.
-#[derive(Drop)]
+#[derive(Clone, Copy)]
 pub struct NativeFields {
     pub kind: u8,
     pub value: u32,

@@ -99,7 +99,7 @@ fn show_number(n: u64) {
 // ---- calls
 
 // What an open said, and the message result behind it.
-#[derive(Drop)]
+#[derive(Clone, Copy)]
 struct Opened {
     said: Said,
     result: ProcResult,
@@ -288,7 +288,7 @@ fn one_if(passed: bool) -> u64 {
 }
 
 // How many of some messages passed, and the message result behind them.
-#[derive(Drop)]
+#[derive(Clone, Copy)]
 struct Passed {
     count: u64,
     result: ProcResult,

@@ -61,7 +61,7 @@ fn skip_spaces(line: &[u8], from: usize) -> usize {
 }
 
 // A number of a line, the place behind it, and whether there is one.
-#[derive(Drop)]
+#[derive(Clone, Copy)]
 pub struct Number {
     pub value: u64,
     pub next: usize,
@@ -91,7 +91,7 @@ pub fn number_at(line: &[u8], from: usize) -> Number {
 
 // ---- what a call is given
 
-#[derive(Drop)]
+#[derive(Clone, Copy)]
 pub struct Message {
     pub kind: u32,
     pub wparam: u64,

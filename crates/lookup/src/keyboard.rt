@@ -9,7 +9,7 @@ use keys::KeyLocation;
 
 // ---- lParam and wParam
 
-#[derive(Drop)]
+#[derive(Clone, Copy)]
 pub struct KeyLParam {
     pub scancode: u8,
     pub extended: bool,
@@ -65,7 +65,7 @@ pub fn message_scancode(block: &[u8], vkey: u16, l: KeyLParam) -> u16
 }
 
 // Where a virtual key belongs, before the scan code's page is looked at.
-#[derive(Drop)]
+#[derive(Clone, Copy)]
 enum VkeyPlace {
     Left,
     Right,

@@ -14,7 +14,7 @@ use keys::{Key, NativeKeyCode};
 
 // ---- key state and modifiers
 
-#[derive(Drop)]
+#[derive(Clone, Copy)]
 pub struct WindowsModifiers {
     pub shift: bool,
     pub control: bool,
@@ -113,7 +113,7 @@ fn weight(on: bool, n: usize) -> usize
 // ---- what a layout answers
 
 // A key of the layout. The text of a character is the part of the block from start, len bytes long.
-#[derive(Drop)]
+#[derive(Clone, Copy)]
 pub struct LayoutKey {
     pub key: Key,
     pub start: usize,

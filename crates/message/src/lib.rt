@@ -15,7 +15,7 @@ use questions::Asked;
 use session::{FinishAnswer, OpenAnswer, PendingMessageToken, ProcResult};
 
 // What an open answers, and the message result after it.
-#[derive(Drop)]
+#[derive(Clone, Copy)]
 pub struct Opened {
     pub answer: OpenAnswer,
     pub result: ProcResult,

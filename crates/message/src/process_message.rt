@@ -8,7 +8,7 @@ use crate::Opened;
 use session::{OpenAnswer, ProcResult};
 
 // SCOPE 10.8: the message result, lent and set by an open.
-#[derive(Drop)]
+#[derive(Clone, Copy)]
 pub struct MessageResult {
     pub value: ProcResult,
 }

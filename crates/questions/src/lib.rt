@@ -23,7 +23,7 @@ use session::{
 // ---- put to every call
 
 // Whether the questions are passed, or the first that is failed.
-#[derive(Drop)]
+#[derive(Clone, Copy)]
 pub enum Asked {
     Passed,
     Failed(Refusal),

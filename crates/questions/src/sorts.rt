@@ -6,7 +6,7 @@ ghost use Rattle.questions.specs.Sorts.{as_sort};
 use session::ElementState;
 
 // What a message is to the calls.
-#[derive(Drop)]
+#[derive(Clone, Copy)]
 pub enum MessageSort {
     KeyDown,
     KeyUp,

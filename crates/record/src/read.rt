@@ -37,7 +37,7 @@ pub fn unit_count(session: &[u8]) -> usize
 // ---- entries and header
 
 // What an entry holds: an open press, release or character, or a completed event.
-#[derive(Drop)]
+#[derive(Clone, Copy)]
 pub enum Pending {
     Press,
     Release,
@@ -46,14 +46,14 @@ pub enum Pending {
 }
 
 // Of an open press its virtual key and what its lParam says.
-#[derive(Drop)]
+#[derive(Clone, Copy)]
 pub struct PressedKey {
     pub vkey: u16,
     pub lparam: KeyLParam,
 }
 
 // What stands before the entries: the tokens handed out, whether a press is held, the number of entries.
-#[derive(Drop)]
+#[derive(Clone, Copy)]
 pub struct Header {
     pub handed: u16,
     pub held: bool,

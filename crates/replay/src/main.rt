@@ -39,7 +39,7 @@ fn unpack(d: &[u8], from: usize, out: &mut [u8]) -> usize {
 }
 
 // A part of the file.
-#[derive(Drop)]
+#[derive(Clone, Copy)]
 struct Part {
     from: usize,
     to: usize,
@@ -142,7 +142,7 @@ fn peeked_at(r: &[u8]) -> Peeked {
 }
 
 // What a call did otherwise than tao.
-#[derive(Drop)]
+#[derive(Clone, Copy)]
 enum Differs {
     Nowhere,
     Answer,
@@ -152,7 +152,7 @@ enum Differs {
 }
 
 // A call: what it did otherwise than tao in its answer and the message result, and that result.
-#[derive(Drop)]
+#[derive(Clone, Copy)]
 struct Called {
     differs: Differs,
     result: ProcResult,
@@ -267,7 +267,7 @@ fn show_difference(d: Differs, answers: &[u8; AREA_SIZE], expected: &[u8; AREA_S
 // ---- scripts
 
 // What was played: the place behind it, calls, events, what the last call did otherwise than tao, and the message result.
-#[derive(Drop)]
+#[derive(Clone, Copy)]
 struct Played {
     at: usize,
     calls: u64,
@@ -438,7 +438,7 @@ fn play_named(
 }
 
 // How much was played, and whether tao answered all of it so.
-#[derive(Drop)]
+#[derive(Clone, Copy)]
 struct All {
     scripts: u64,
     calls: u64,

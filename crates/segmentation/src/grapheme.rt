@@ -34,7 +34,7 @@ const LV: u32 = 12;
 const LVT: u32 = 13;
 
 // What the rules ask of the scalar values up to the last one read.
-#[derive(Drop)]
+#[derive(Clone, Copy)]
 pub struct Behind {
     // its break class
     pub last: u32,

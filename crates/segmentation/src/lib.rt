@@ -12,7 +12,7 @@ use crate::grapheme::Behind;
 use text::Step;
 
 // What a table says of a scalar value: its break class and its pictographic mark.
-#[derive(Drop)]
+#[derive(Clone, Copy)]
 pub struct Props {
     pub class: u32,
     pub pictographic: bool,

@@ -49,7 +49,7 @@ pub const ANSWER_EVENTS_AT: usize = 2;
 // ---- events
 
 // tao's ElementState (event.rs).
-#[derive(Drop)]
+#[derive(Clone, Copy)]
 pub enum ElementState {
     Pressed,
     Released,
@@ -59,7 +59,7 @@ pub enum ElementState {
 
 // What tao's PartialKeyEventInfo holds for presses and releases alike; the key code is the scan code's. A dead key without modifiers becomes its
 // character where it is written.
-#[derive(Drop)]
+#[derive(Clone, Copy)]
 pub struct PartialKeyEventInfo {
     pub scancode: u16,
     pub is_repeat: bool,
@@ -70,7 +70,7 @@ pub struct PartialKeyEventInfo {
 
 // tao's KeyEvent (event.rs) with KeyEventExtra's key_without_modifiers and MessageAsKeyEvent's is_synthetic. Its two texts are one, which the logical
 // key gives; where `dead` is set a dead key without modifiers stays one.
-#[derive(Drop)]
+#[derive(Clone, Copy)]
 pub struct KeyEvent {
     pub physical_key: KeyCode,
     pub logical_key: LayoutKey,
@@ -86,14 +86,14 @@ pub struct KeyEvent {
 // ---- what completes a held press
 
 // Its text: that of its units, or what a key of the layout gives.
-#[derive(Drop)]
+#[derive(Clone, Copy)]
 pub enum LastText {
     Typed,
     Layout(LayoutKey, KeyText),
 }
 
 // Its logical key: the one that it was held with, none that is known, or its text.
-#[derive(Drop)]
+#[derive(Clone, Copy)]
 pub enum LastKey {
     Held,
     Unidentified,
@@ -103,18 +103,18 @@ pub enum LastKey {
 // ---- what the calls answer
 
 // tao's ProcResult (event_loop.rs): what the window procedure returns, an LRESULT or the default procedure's.
-#[derive(Drop)]
+#[derive(Clone, Copy)]
 pub enum ProcResult {
     DefWindowProc,
     Value(i64),
 }
 
 // SCOPE 10.6: tao's PendingMessageToken, a number of its own type, so that no place in the queue can be passed for it.
-#[derive(Drop)]
+#[derive(Clone, Copy)]
 pub struct PendingMessageToken(pub u32);
 
 // SCOPE 6.1 to 6.11: why a call is refused, in the order of the questions: 11, of the break table, stands behind 3.
-#[derive(Drop)]
+#[derive(Clone, Copy)]
 pub enum Refusal {
     AreaSize,
     KeyStateSize,
@@ -130,7 +130,7 @@ pub enum Refusal {
 }
 
 // What an open answers.
-#[derive(Drop)]
+#[derive(Clone, Copy)]
 pub enum OpenAnswer {
     Refused(Refusal),
     Opened(PendingMessageToken),
@@ -138,7 +138,7 @@ pub enum OpenAnswer {
 }
 
 // What a finish answers.
-#[derive(Drop)]
+#[derive(Clone, Copy)]
 pub enum FinishAnswer {
     Refused(Refusal),
     Finished,

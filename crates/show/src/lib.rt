@@ -107,7 +107,7 @@ pub fn copy(from: &[u8], to: &mut [u8]) {
 // ---- what a call said
 
 // What a call said: 0 refused, 1 opened none or finished, 2 opened; and the refusal's number or the token.
-#[derive(Drop)]
+#[derive(Clone, Copy)]
 pub struct Said {
     pub what: u8,
     pub number: u32,

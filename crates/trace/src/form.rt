@@ -3,14 +3,14 @@ ghost use Rattle.std.specs.Prelude.{◌≡◌, ◌+◌, ◌≤◌, ◌<◌, leng
 ghost use Rattle.trace.specs.Form.{digit_of, digits_from, number_at, field_at, message_at, finish_at, key_at, again_at, line_at};
 
 // A number, with the place behind it.
-#[derive(Drop)]
+#[derive(Clone, Copy)]
 pub enum Number {
     NoNumber,
     Value(u64, usize),
 }
 
 // A line, with the place behind it.
-#[derive(Drop)]
+#[derive(Clone, Copy)]
 pub enum Line {
     NoLine,
     Message(u32, u64, u64, usize),
