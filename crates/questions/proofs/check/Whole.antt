@@ -1,7 +1,7 @@
 -- The whole area: question 4 as plain tests, in the order of the code.
 -- Assumes nothing.
 use mathlib.Core.Path.{◌≡◌, refl, sym, ap, ◌∙◌}
-use mathlib.Core.Bool.{Bool, true, false, ◌&&◌, and_assoc, and_comm, and_true, and-false, and-eq-true_iff}
+use mathlib.Core.Bool.{Bool, true, false, ◌&&◌, and_assoc, and_comm, and-true, and-false, and-eq-true_iff}
 use mathlib.Core.List.{List, [], ◌∷◌, ◌++◌}
 use Prim.Native.Nat.{ℕ, ◌+◌, ◌-◌, ◌*◌, ◌≤◌}
 use native.Mathlib.Nat.{add_assoc}
@@ -105,7 +105,7 @@ settle :
     (((h && (n && (o && y))) && z) && (r && (f && (k && (n && (t && u)))))) ≡ (t && (h && (n && (w && (o && (r && (f && k)))))))
 settle t false n o y z r f k u w a b = sym (and-false t)
 settle t true false o y z r f k u w a b = sym (and-false t)
-settle t true true o y z r f k u w a b = rw (a refl, and_true, ← b refl) (go o)
+settle t true true o y z r f k u w a b = rw (a refl, and-true, ← b refl) (go o)
   where
     go : (o : Bool) → (((o && y) && z) && (r && (f && (k && t)))) ≡ (t && ((y && z) && (o && (r && (f && k)))))
     go false = rw (and-false, and-false)
