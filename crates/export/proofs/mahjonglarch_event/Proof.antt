@@ -6,25 +6,28 @@ use Rattle.export.proofs.Interface.{done, undone, was_read}
 use Rattle.export.proofs.mahjonglarch_event.Statement.{statement}
 use Rattle.export.proofs.mahjonglarch_event.Tie as tie
 
-read-event-requires : tie.Need-read-event-requires
+read-event-requires : tie.Need-read_event-requires
 read-event-requires c κs = search rules
 
-same_length : tie.Need-same-length
+same_length : tie.Need-shape_of-fields-then-read_event
 same_length c = search rules
 
-returns : tie.Need-returns
+returns : tie.Need-returns-then-read_event
 returns c =
-    let called = c.before.before.before in
-    was_read _ _ called.before.before.before.before.args.i called.read-event.result called.read-event.ensures refl (done c.if1.true refl)
+    was_read _ _ c.args.i c.read_event.result c.read_event.ensures refl (done c.if-read_event.true refl)
 
-same-length-2 : tie.Need-same-length-2
+same-length-2 : tie.Need-shape_of-fields-else-read_event
 same-length-2 c = search rules
 
-returns-2 : tie.Need-returns-2
+returns-2 : tie.Need-returns-else-read_event
 returns-2 c =
-    let called = c.before.before.before in
-    was_read _ _ called.before.before.before.before.args.i called.read-event.result called.read-event.ensures refl (undone c.if1.false refl)
+    was_read _ _ c.args.i c.read_event.result c.read_event.ensures refl (undone c.if-read_event.false refl)
 
-pub mahjonglarch-event-spec : {M : Type 1} → statement M
-mahjonglarch-event-spec =
-    tie.close (tie.spec read-event-requires same_length returns same-length-2 returns-2)
+pub mahjonglarch_event_spec : {M : Type 1} → statement M
+mahjonglarch_event_spec =
+    tie.close (tie.spec
+    read-event-requires
+    same_length
+    returns
+    same-length-2
+    returns-2)

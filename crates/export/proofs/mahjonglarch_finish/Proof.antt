@@ -6,32 +6,27 @@ use Rattle.export.proofs.Interface.{finish_says}
 use Rattle.export.proofs.mahjonglarch_finish.Statement.{statement}
 use Rattle.export.proofs.mahjonglarch_finish.Tie as tie
 
-peeked-at-requires : tie.Need-peeked-at-requires
+peeked-at-requires : tie.Need-peeked_at-p-requires
 peeked-at-requires c κs = search rules
 
-finish-requires : tie.Need-finish-requires
+finish-requires : tie.Need-finish-a-requires
 finish-requires c κs = search rules
 
-finish-number-requires : tie.Need-finish-number-requires
+finish-number-requires : tie.Need-finish_number-requires
 finish-number-requires c κs = search rules
 
-same_length : tie.Need-same-length
+same_length : tie.Need-shape_of-session
 same_length c = search rules
 
-same-length-2 : tie.Need-same-length-2
+same-length-2 : tie.Need-shape_of-answers
 same-length-2 c = search rules
 
 returns : tie.Need-returns
 returns c =
-    let passed = c.before in
-    let finished = passed.before.before.before.before in
-    let peeked = finished.before.before.before in
-    let asked = peeked.before in
-    let start = asked.before.before.before.before.before in
-    finish_says _ _ _ start.args.token finished.finish.ensures refl peeked.peeked-at.ensures c.finish-number.ensures
+    finish_says _ _ _ c.args.token c.finish-a.ensures refl c.peeked_at-p.ensures c.finish_number.ensures
 
-pub mahjonglarch-finish-spec : {M : Type 1} → statement M
-mahjonglarch-finish-spec =
+pub mahjonglarch_finish_spec : {M : Type 1} → statement M
+mahjonglarch_finish_spec =
     tie.close
     (tie.spec
     peeked-at-requires

@@ -9,24 +9,27 @@ use Rattle.export.proofs.mahjonglarch_fresh.Tie as tie
 fresh-requires : tie.Need-fresh-requires
 fresh-requires c κs = search rules
 
-same_length : tie.Need-same-length
+same_length : tie.Need-shape_of-session-then-fresh
 same_length c = search rules
 
-returns : tie.Need-returns
+returns : tie.Need-returns-then-fresh
 returns c =
-    let called = c.before.before.before in
-    let e = called.fresh.ensures in
-    (omega (arith, made called.before.before.before.args.session.now e.0 c.if1.true), e.1)
+    let e = c.fresh.ensures in
+    (omega (arith, made c.args.session.now e.0 c.if-fresh.true), e.1)
 
-same-length-2 : tie.Need-same-length-2
+same-length-2 : tie.Need-shape_of-session-else-fresh
 same-length-2 c = search rules
 
-returns-2 : tie.Need-returns-2
+returns-2 : tie.Need-returns-else-fresh
 returns-2 c =
-    let called = c.before.before.before in
-    let e = called.fresh.ensures in
-    (omega (arith, not_made called.before.before.before.args.session.now e.0 c.if1.false), e.1)
+    let e = c.fresh.ensures in
+    (omega (arith, not_made c.args.session.now e.0 c.if-fresh.false), e.1)
 
-pub mahjonglarch-fresh-spec : {M : Type 1} → statement M
-mahjonglarch-fresh-spec =
-    tie.close (tie.spec fresh-requires same_length returns same-length-2 returns-2)
+pub mahjonglarch_fresh_spec : {M : Type 1} → statement M
+mahjonglarch_fresh_spec =
+    tie.close (tie.spec
+    fresh-requires
+    same_length
+    returns
+    same-length-2
+    returns-2)

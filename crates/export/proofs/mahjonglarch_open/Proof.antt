@@ -7,36 +7,32 @@ use Rattle.export.proofs.Interface.{open_says}
 use Rattle.export.proofs.mahjonglarch_open.Statement.{statement}
 use Rattle.export.proofs.mahjonglarch_open.Tie as tie
 
-open-requires : tie.Need-open-requires
+open-requires : tie.Need-open-a-requires
 open-requires c κs = search rules
 
-token-number-requires : tie.Need-token-number-requires
+token-number-requires : tie.Need-token_number-requires
 token-number-requires c κs = search rules
 
-result-number-requires : tie.Need-result-number-requires
+result-number-requires : tie.Need-result_number-requires
 result-number-requires c κs = search rules
 
-open-number-requires : tie.Need-open-number-requires
+open-number-requires : tie.Need-open_number-requires
 open-number-requires c κs = search rules
 
-same_length : tie.Need-same-length
+same_length : tie.Need-shape_of-session
 same_length c = search rules
 
-same-length-2 : tie.Need-same-length-2
+same-length-2 : tie.Need-shape_of-answers
 same-length-2 c = search rules
 
 returns : tie.Need-returns
 returns c =
-    let token = c.before.before in
-    let passed = token.before in
-    let opened = passed.before.before.before.before in
-    let given = opened.before.before.before in
-    let a = given.before.before.before.before.before.args in
-    open_says _ _ _ (message a.kind a.wparam a.lparam) opened.«open».ensures refl refl c.open-number.ensures
-    token.token-number.ensures c.before.result-number.ensures
+    let a = c.args in
+    open_says _ _ _ (message a.kind a.wparam a.lparam) c.«open».ensures refl refl c.open_number.ensures
+    c.token_number.ensures c.result_number.ensures
 
-pub mahjonglarch-open-spec : {M : Type 1} → statement M
-mahjonglarch-open-spec =
+pub mahjonglarch_open_spec : {M : Type 1} → statement M
+mahjonglarch_open_spec =
     tie.close
     (tie.spec
     open-requires

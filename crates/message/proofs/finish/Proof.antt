@@ -15,91 +15,76 @@ use Rattle.message.proofs.finish.Statement.{statement}
 use Rattle.message.proofs.finish.Tie as tie
 
 -- from the finish of the message back to what the call is given
-abbrev given : tie.After-finish-open → tie.Start
-given c =
-    let seen_by = c.before.before.before in
-    let late = seen_by.before.before.before in
-    let early = late.before.before.before.before in
-    let known = early.before.before.before in
-    known.before.before.before.before.before
+abbrev given : tie.After-finish_open → tie.Start
+given c = c.before.before.before.before.before.before.before.before.before.before.before.before.before
 
 -- the message of the call's token is finished, with what counts of what the call was given as peeked
 done-in :
-    (c : tie.After-finish-open) →
-    let a = (given c).args in
-    Does (finished_by (decode a.session.now) (keyboard_at a.state.now a.block.now) (table_of a.table.now) a.token.0 (seen (as_peeked a.peeked))) c.finish-open.new.0 c.finish-open.new.1.0
-done-in c = let a = (given c).args in told_done _ _ _ a.token.0 (seen (as_peeked a.peeked)) c.finish-open.ensures (refl, c.before.before.before.seen.ensures)
+    (c : tie.After-finish_open) →
+    let a = c.args in
+    Does (finished_by (decode a.session.now) (keyboard_at a.state.now a.block.now) (table_of a.table.now) a.token.0 (seen (as_peeked a.peeked))) c.finish_open.new.0 c.finish_open.new.1.0
+done-in c = let a = c.args in told_done _ _ _ a.token.0 (seen (as_peeked a.peeked)) c.finish_open.ensures (refl, c.seen-seen.ensures)
 
-ask-areas-requires : tie.Need-ask-areas-requires
+ask-areas-requires : tie.Need-ask_areas-early-requires
 ask-areas-requires c κs = search rules
 
-enum-known-early : tie.Need-enum-known-early
+enum-known-early : tie.Need-enum_known-early
 enum-known-early c = search rules
 
-same_length : tie.Need-same-length
+same_length : tie.Need-shape_of-session-in-Failed
 same_length c = search rules
 
-same-length-2 : tie.Need-same-length-2
+same-length-2 : tie.Need-shape_of-answers-in-Failed
 same-length-2 c = search rules
 
-returns : tie.Need-returns
+returns : tie.Need-returns-in-Failed
 returns c =
-    λ result. finish_early _ _ _ _ _ result _ _ c.before.before.before.ask-areas.ensures _ c.before.early.given.1
+    λ result. finish_early _ _ _ _ _ result _ _ c.ask_areas-early.ensures _ c.in-Failed.is
 
-enum_told : tie.Need-enum-told
+enum_told : tie.Need-enum_told-1
 enum_told c = search rules
 
-ask-finish-requires : tie.Need-ask-finish-requires
+ask-finish-requires : tie.Need-ask_finish-late-requires
 ask-finish-requires c κs =
-    asked_area _ _ _ _ _ c.before.before.before.ask-areas.ensures c.before.enum_told.given.1
+    asked_area _ _ _ _ _ c.ask_areas-early.ensures c.in_default.is
 
-enum-known-late : tie.Need-enum-known-late
+enum-known-late : tie.Need-enum_known-late
 enum-known-late c = search rules
 
-same-length-3 : tie.Need-same-length-3
+same-length-3 : tie.Need-shape_of-session-in-Failed-late
 same-length-3 c = search rules
 
-same-length-4 : tie.Need-same-length-4
+same-length-4 : tie.Need-shape_of-answers-in-Failed-late
 same-length-4 c = search rules
 
-returns-2 : tie.Need-returns-2
+returns-2 : tie.Need-returns-in-Failed-late
 returns-2 c =
-    let late = c.before.before.before in
-    let told = late.before.before in
-    let early = told.before.before in
     λ result.
-    finish_late _ _ _ _ _ result _ _ early.ask-areas.ensures told.enum_told.given.1 late.ask-finish.ensures _ c.before.late.given.1
+    finish_late _ _ _ _ _ result _ _ c.ask_areas-early.ensures c.in_default.is c.ask_finish-late.ensures _ c.in-Failed-late.is
 
-enum-told-2 : tie.Need-enum-told-2
+enum-told-2 : tie.Need-enum_told-in_default-late
 enum-told-2 c = search rules
 
-seen-requires : tie.Need-seen-requires
+seen-requires : tie.Need-seen-seen-requires
 seen-requires c κs = search rules
 
-finish-open-requires : tie.Need-finish-open-requires
+finish-open-requires : tie.Need-finish_open-requires
 finish-open-requires c κs =
-    let late = c.before.before.before.before.before in
-    let told = late.before.before in
-    let e = told.before.before.ask-areas.ensures in
-    let p = told.enum_told.given.1 in
+    let e = c.ask_areas-early.ensures in
+    let p = c.in_default.is in
     (asked_area _ _ _ _ _ e p, asked_answers _ _ _ _ _ e p, asked_block _ _ _ _ _ e p, asked_table _ _ _ _ _ e p)
 
-same-length-5 : tie.Need-same-length-5
+same-length-5 : tie.Need-shape_of-session
 same-length-5 c = search rules
 
-same-length-6 : tie.Need-same-length-6
+same-length-6 : tie.Need-shape_of-answers
 same-length-6 c = search rules
 
-returns-3 : tie.Need-returns-3
+returns-3 : tie.Need-returns
 returns-3 c =
-    let done = c.before.before.before.before in
-    let passed = done.before.before.before.before in
-    let late = passed.before.before in
-    let told = late.before.before in
-    let early = told.before.before in
     λ result.
-    finish-passed _ _ _ _ _ result _ _ early.ask-areas.ensures told.enum_told.given.1 late.ask-finish.ensures passed.enum-told2.given.1
-    (done-in done)
+    finish-passed _ _ _ _ _ result _ _ c.ask_areas-early.ensures c.in_default.is c.ask_finish-late.ensures c.in_default-late.is
+    (done-in c.before.before.before.before)
 
 pub finish_spec : {M : Type 1} → statement M
 finish_spec =

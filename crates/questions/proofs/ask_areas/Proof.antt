@@ -9,65 +9,52 @@ use Rattle.questions.proofs.QuestionLadder.{no_session-size, no_answer-size, no_
 use Rattle.questions.proofs.ask_areas.Statement.{statement}
 use Rattle.questions.proofs.ask_areas.Tie as tie
 
-returns : tie.Need-returns
+returns : tie.Need-returns-then-session-ne-AREA_SIZE
 unfolding as_no refusal_number
-returns c = no_session-size _ _ _ _ _ c.if1.true
+returns c = no_session-size _ _ _ _ _ c.if-session-ne-AREA_SIZE.true
 
-returns-2 : tie.Need-returns-2
+returns-2 : tie.Need-returns-then-answers-ne-AREA_SIZE
 unfolding as_no refusal_number
-returns-2 c = no_answer-size _ _ _ _ _ c.before.if1.false (λ e. omega (arith, c.if2.true))
+returns-2 c = no_answer-size _ _ _ _ _ c.if-session-ne-AREA_SIZE.false (λ e. omega (arith, c.if-answers-ne-AREA_SIZE.true))
 
-returns-3 : tie.Need-returns-3
+returns-3 : tie.Need-returns-then-state-ne-KEY_STATE_SIZE
 unfolding as_no refusal_number
-returns-3 c = let s = c.before in no_key-state _ _ _ _ _ s.before.if1.false s.if2.false c.if3.true
+returns-3 c = no_key-state _ _ _ _ _ c.if-session-ne-AREA_SIZE.false c.if-answers-ne-AREA_SIZE.false c.if-state-ne-KEY_STATE_SIZE.true
 
-block-ok-requires : tie.Need-block-ok-requires
+block-ok-requires : tie.Need-block_ok-requires
 block-ok-requires c κs = search rules
 
-returns-4 : tie.Need-returns-4
+returns-4 : tie.Need-returns-then-not-block_ok
 unfolding as_no refusal_number
 returns-4 c =
-    let b = c.before in
-    let s = b.before.before in
-    no_block _ _ _ _ _ s.before.if1.false s.if2.false b.before.if3.false b.block-ok.ensures (not-true _ c.if4.true)
+    no_block _ _ _ _ _ c.if-session-ne-AREA_SIZE.false c.if-answers-ne-AREA_SIZE.false c.if-state-ne-KEY_STATE_SIZE.false c.block_ok.ensures (not-true _ c.if-not-block_ok.true-raw)
 
-table-ok-requires : tie.Need-table-ok-requires
+table-ok-requires : tie.Need-table_ok-requires
 table-ok-requires c κs = search rules
 
-returns-5 : tie.Need-returns-5
+returns-5 : tie.Need-returns-then-not-table_ok
 unfolding as_no refusal_number
 returns-5 c =
-    let t = c.before in
-    let b = t.before.before in
-    let s = b.before.before in
-    no_table _ _ _ _ _ s.before.if1.false s.if2.false b.before.if3.false b.block-ok.ensures (not-false _ t.before.if4.false)
-    t.table-ok.ensures (not-true _ c.if5.true)
+    no_table _ _ _ _ _ c.if-session-ne-AREA_SIZE.false c.if-answers-ne-AREA_SIZE.false c.if-state-ne-KEY_STATE_SIZE.false c.block_ok.ensures (not-false _ c.if-not-block_ok.false-raw)
+    c.table_ok.ensures (not-true _ c.if-not-table_ok.true-raw)
 
-session-ok-requires : tie.Need-session-ok-requires
+session-ok-requires : tie.Need-session_ok-requires
 session-ok-requires c κs = search rules
 
-returns-6 : tie.Need-returns-6
+returns-6 : tie.Need-returns-then-not-session_ok
 unfolding as_no refusal_number
 returns-6 c =
-    let a = c.before in
-    let t = a.before.before in
-    let b = t.before.before in
-    let s = b.before.before in
-    no_session _ _ _ _ _ s.before.if1.false s.if2.false b.before.if3.false b.block-ok.ensures (not-false _ t.before.if4.false)
-    t.table-ok.ensures (not-false _ a.before.if5.false) a.session-ok.ensures (not-true _ c.if6.true)
+    no_session _ _ _ _ _ c.if-session-ne-AREA_SIZE.false c.if-answers-ne-AREA_SIZE.false c.if-state-ne-KEY_STATE_SIZE.false c.block_ok.ensures (not-false _ c.if-not-block_ok.false-raw)
+    c.table_ok.ensures (not-false _ c.if-not-table_ok.false-raw) c.session_ok.ensures (not-true _ c.if-not-session_ok.true-raw)
 
-returns-7 : tie.Need-returns-7
+returns-7 : tie.Need-returns
 unfolding as_no refusal_number
 returns-7 c =
-    let a = c.before in
-    let t = a.before.before in
-    let b = t.before.before in
-    let s = b.before.before in
-    early_passed _ _ _ _ _ s.before.if1.false s.if2.false b.before.if3.false b.block-ok.ensures (not-false _ t.before.if4.false)
-    t.table-ok.ensures (not-false _ a.before.if5.false) a.session-ok.ensures (not-false _ c.if6.false)
+    early_passed _ _ _ _ _ c.if-session-ne-AREA_SIZE.false c.if-answers-ne-AREA_SIZE.false c.if-state-ne-KEY_STATE_SIZE.false c.block_ok.ensures (not-false _ c.if-not-block_ok.false-raw)
+    c.table_ok.ensures (not-false _ c.if-not-table_ok.false-raw) c.session_ok.ensures (not-false _ c.if-not-session_ok.false-raw)
 
-pub ask-areas-spec : {M : Type 1} → statement M
-ask-areas-spec =
+pub ask_areas_spec : {M : Type 1} → statement M
+ask_areas_spec =
     tie.close
     (tie.spec
     returns

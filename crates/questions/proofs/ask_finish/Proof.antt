@@ -7,16 +7,19 @@ use Rattle.questions.proofs.QuestionLadder.{not_latest, latest-passed}
 use Rattle.questions.proofs.ask_finish.Statement.{statement}
 use Rattle.questions.proofs.ask_finish.Tie as tie
 
-is-latest-requires : tie.Need-is-latest-requires
+is-latest-requires : tie.Need-is_latest-requires
 is-latest-requires c κs = search rules
 
-returns : tie.Need-returns
+returns : tie.Need-returns-then-is_latest
 unfolding as_no refusal_number
-returns c = latest-passed _ _ c.before.is-latest.ensures c.if1.true
+returns c = latest-passed _ _ c.is_latest.ensures c.if-is_latest.true
 
-returns-2 : tie.Need-returns-2
+returns-2 : tie.Need-returns
 unfolding as_no refusal_number
-returns-2 c = not_latest _ _ c.before.is-latest.ensures c.if1.false
+returns-2 c = not_latest _ _ c.is_latest.ensures c.if-is_latest.false
 
-pub ask-finish-spec : {M : Type 1} → statement M
-ask-finish-spec = tie.close (tie.spec is-latest-requires returns returns-2)
+pub ask_finish_spec : {M : Type 1} → statement M
+ask_finish_spec = tie.close (tie.spec
+    is-latest-requires
+    returns
+    returns-2)

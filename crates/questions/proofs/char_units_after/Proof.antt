@@ -7,36 +7,30 @@ use Rattle.questions.proofs.AsksBySort.{char_unheld, press_there, char-units-hel
 use Rattle.questions.proofs.char_units_after.Statement.{statement}
 use Rattle.questions.proofs.char_units_after.Tie as tie
 
-header-at-requires : tie.Need-header-at-requires
+header-at-requires : tie.Need-header_at-h-requires
 header-at-requires c κs = search rules
 
-returns : tie.Need-returns
-returns c kind lparam = char_unheld _ c.before.before.header_at.ensures.1 (not-true _ c.if1.true) _
+returns : tie.Need-returns-then-not-h
+returns c kind lparam = char_unheld _ c.header_at-h.ensures.1 (not-true _ c.if-not-h.true) _
 
-unit-count-requires : tie.Need-unit-count-requires
+unit-count-requires : tie.Need-unit_count-held-requires
 unit-count-requires c κs =
-    let h = c.before.before in
-    let s = h.before.before in
-    (omega (arith, s.requires.size), press_there _ h.header_at.ensures.1 s.requires (not-false _ c.if1.false))
+    (omega (arith, c.requires.size), press_there _ c.header_at-h.ensures.1 c.requires (not-false _ c.if-not-h.false))
 
-char-units-requires : tie.Need-char-units-requires
+char-units-requires : tie.Need-char_units-added-requires
 char-units-requires c κs = search rules
 
-add-result : tie.Need-overflow-add-result
+add-result : tie.Need-overflow_add-result
 add-result c =
-    let f = units-fit _ _ _ c.before.before.unit-count.ensures.1 c.before.char-units.ensures in
+    let f = units-fit _ _ _ c.unit_count-held.ensures.1 c.char_units-added.ensures in
     omega arith
 
-returns-2 : tie.Need-returns-2
+returns-2 : tie.Need-returns
 returns-2 c kind lparam =
-    let units = c.before in
-    let counted = units.before in
-    let e = counted.before in
-    let h = e.before.before in
-    char-units-held _ h.header_at.ensures.1 h.before.before.requires (not-false _ e.if1.false) _ _ _ counted.unit-count.ensures.0 units.char-units.ensures
+    char-units-held _ c.header_at-h.ensures.1 c.requires (not-false _ c.if-not-h.false) _ _ _ c.unit_count-held.ensures.0 c.char_units-added.ensures
 
-pub char-units-after-spec : {M : Type 1} → statement M
-char-units-after-spec =
+pub char_units_after_spec : {M : Type 1} → statement M
+char_units_after_spec =
     tie.close
     (tie.spec
     header-at-requires

@@ -6,53 +6,53 @@ use Rattle.questions.specs.Sorts.{as_sort}
 use Rattle.questions.proofs.has_press.Statement.{statement}
 use Rattle.questions.proofs.has_press.Tie as tie
 
-header-at-requires : tie.Need-header-at-requires
+header-at-requires : tie.Need-header_at-h-requires
 header-at-requires c κs = search rules
 
-enum_told : tie.Need-enum-told
-enum_told c = c.match.keys1
+enum_told : tie.Need-enum_told-1
+enum_told c = c.in-KeyDown-1.keys1
 
-enum-told-2 : tie.Need-enum-told-2
-enum-told-2 c = c.match.keys2
+enum-told-2 : tie.Need-enum_told-in-KeyUp
+enum-told-2 c = c.in-KeyUp-1.keys2
 
-enum-told-3 : tie.Need-enum-told-3
-enum-told-3 c = c.match.keys3
+enum-told-3 : tie.Need-enum_told-in-Char
+enum-told-3 c = c.in-Char-1.keys3
 
-enum-told-4 : tie.Need-enum-told-4
-enum-told-4 c = c.match.keys4
+enum-told-4 : tie.Need-enum_told-in-DeadChar
+enum-told-4 c = c.in-DeadChar-1.keys4
 
-enum-told-5 : tie.Need-enum-told-5
-enum-told-5 c = c.match.keys5
+enum-told-5 : tie.Need-enum_told-in-Focus
+enum-told-5 c = c.in-Focus-1.keys5
 
-enum-told-6 : tie.Need-enum-told-6
-enum-told-6 c = c.match.keys6
+enum-told-6 : tie.Need-enum_told-in-Ignored
+enum-told-6 c = c.in-Ignored-1.keys6
 
-returns : tie.Need-returns
+returns : tie.Need-returns-in-KeyDown
 unfolding question5 as_sort
-returns c = rw c.enum_told.given.1
+returns c = rw c.in-KeyDown.is
 
-returns-2 : tie.Need-returns-2
+returns-2 : tie.Need-returns-in-KeyUp
 unfolding question5 as_sort
-returns-2 c = rw c.enum-told2.given.1
+returns-2 c = rw c.in-KeyUp.is
 
-returns-3 : tie.Need-returns-3
+returns-3 : tie.Need-returns-in-Char
 unfolding question5 as_sort
-returns-3 c = rw c.enum-told3.given.1
+returns-3 c = rw c.in-Char.is
 
-returns-4 : tie.Need-returns-4
+returns-4 : tie.Need-returns-in-DeadChar
 unfolding question5 as_sort
-returns-4 c = rw c.enum-told4.given.1 c.before.before.header_at.ensures.1
+returns-4 c = rw c.in-DeadChar.is c.header_at-h.ensures.1
 
-returns-5 : tie.Need-returns-5
+returns-5 : tie.Need-returns-in-Focus
 unfolding question5 as_sort
-returns-5 c = rw c.enum-told5.given.1
+returns-5 c = rw c.in-Focus.is
 
-returns-6 : tie.Need-returns-6
+returns-6 : tie.Need-returns-in-Ignored
 unfolding question5 as_sort
-returns-6 c = rw c.enum-told6.given.1
+returns-6 c = rw c.in-Ignored.is
 
-pub has-press-spec : {M : Type 1} → statement M
-has-press-spec =
+pub has_press_spec : {M : Type 1} → statement M
+has_press_spec =
     tie.close
     (tie.spec
     header-at-requires

@@ -9,16 +9,19 @@ use Rattle.questions.proofs.may_open.Tie as tie
 opens-requires : tie.Need-opens-requires
 opens-requires c κs = search rules
 
-returns : tie.Need-returns
-returns c = not_asked _ _ c.before.opens.ensures (not-true _ c.if1.true)
+returns : tie.Need-returns-then-not-opens
+returns c = not_asked _ _ c.opens.ensures (not-true _ c.if-not-opens.true-raw)
 
-open-count-requires : tie.Need-open-count-requires
+open-count-requires : tie.Need-open_count-requires
 open-count-requires c κs = search rules
 
-returns-2 : tie.Need-returns-2
+returns-2 : tie.Need-returns
 returns-2 c =
-    let o = c.before.before in
-    rw (← asked _ _ o.opens.ensures (not-false _ c.before.if1.false) c.open-count.ensures)
+    rw (← asked _ _ c.opens.ensures (not-false _ c.if-not-opens.false-raw) c.open_count.ensures)
 
-pub may-open-spec : {M : Type 1} → statement M
-may-open-spec = tie.close (tie.spec opens-requires returns open-count-requires returns-2)
+pub may_open_spec : {M : Type 1} → statement M
+may_open_spec = tie.close (tie.spec
+    opens-requires
+    returns
+    open-count-requires
+    returns-2)

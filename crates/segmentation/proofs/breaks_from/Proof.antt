@@ -15,18 +15,18 @@ use Rattle.segmentation.proofs.Steps.{breaks_bad, breaks_yes, breaks_past, turn}
 use Rattle.segmentation.proofs.breaks_from.Statement.{statement}
 use Rattle.segmentation.proofs.breaks_from.Tie as tie
 
-abbrev invariant-loop : tie.invariant-loop
+abbrev invariant-loop : tie.invariant-loop-i
 invariant-loop table text from behind₀ i₀ behind i =
     breaks_by (table_of table) behind₀ (drop from text) ≡ breaks_by (table_of table) behind (drop i text)
 
-abbrev decreases-loop : tie.decreases-loop
+abbrev decreases-loop : tie.decreases-loop-i
 decreases-loop table text from behind₀ i₀ behind i = length text - i
 
 -- from a step that found a scalar value back to the loop, and to the start
-abbrev looped : tie.After-step invariant-loop decreases-loop → tie.At-loop invariant-loop decreases-loop
-looped c = c.before.before.before.before
+abbrev looped : tie.In-Scalar invariant-loop decreases-loop → tie.At-loop-i invariant-loop decreases-loop
+looped c = c.before.before.before
 
-abbrev start : tie.At-loop invariant-loop decreases-loop → tie.Start invariant-loop decreases-loop
+abbrev start : tie.At-loop-i invariant-loop decreases-loop → tie.Start invariant-loop decreases-loop
 start c = c.before.before.before
 
 text-fits : (c : tie.Start invariant-loop decreases-loop) → length c.args.text.now < 18446744073709551616
@@ -34,75 +34,65 @@ text-fits c = omega arith
 
 -- the scalar value, and that it lies within the bytes
 found_in :
-    (c : tie.After-step invariant-loop decreases-loop) →
-    let g = c.step.given in
-    utf8_step (drop (looped c).loop.i (start (looped c)).args.text.now) ≡ Scalar g.0.0 g.0.1.0
-found_in c = sym c.before.before.utf8-step.ensures ∙ c.step.given.1
+    (c : tie.In-Scalar invariant-loop decreases-loop) →
+    let g = c.step-1.given in
+    utf8_step (drop c.loop-i.i c.args.text.now) ≡ Scalar g.0.0 g.0.1.0
+found_in c = sym c.utf8_step-step.ensures ∙ c.in-Scalar.is
 
 fits_in :
-    (c : tie.After-step invariant-loop decreases-loop) →
-    let n = c.step.given.0.1.0 in (0 < n) × ((looped c).loop.i + n ≤ length (start (looped c)).args.text.now)
+    (c : tie.In-Scalar invariant-loop decreases-loop) →
+    let n = c.in-Scalar.n in (0 < n) × (c.loop-i.i + n ≤ length c.args.text.now)
 fits_in c = fits_at _ _ utf8_of utf8_step knows8 _ _ (found_in c)
 
-loop-holds : tie.Need-loop-init invariant-loop decreases-loop
+loop-holds : tie.Need-loop-i-init invariant-loop decreases-loop
 loop-holds c = refl
 
-utf8-step-requires : tie.Need-utf8-step-requires invariant-loop decreases-loop
+utf8-step-requires : tie.Need-utf8_step-step-requires invariant-loop decreases-loop
 utf8-step-requires c κs = search rules
 
-enum_told : tie.Need-enum-told invariant-loop decreases-loop
+enum_told : tie.Need-enum_told-1 invariant-loop decreases-loop
 enum_told c = search rules
 
-returns : tie.Need-returns invariant-loop decreases-loop
+returns : tie.Need-returns-in-Bad invariant-loop decreases-loop
 returns c =
-    let u = c.before.before in
-    let l = u.before.before in
-    breaks_bad _ _ (sym u.utf8-step.ensures ∙ c.enum_told.given.1) l.loop.behind ∙ sym l.loop.invariant
+    breaks_bad _ _ (sym c.utf8_step-step.ensures ∙ c.in-Bad.is) c.loop-i.behind ∙ sym c.loop-i.invariant
 
-enum-known-step : tie.Need-enum-known-step invariant-loop decreases-loop
+enum-known-step : tie.Need-enum_known-step invariant-loop decreases-loop
 enum-known-step c = search rules
 
-props-at-requires : tie.Need-props-at-requires invariant-loop decreases-loop
+props-at-requires : tie.Need-props_at-p-requires invariant-loop decreases-loop
 props-at-requires c κs = search rules
 
 breaks-requires : tie.Need-breaks-requires invariant-loop decreases-loop
 breaks-requires c κs = search rules
 
-returns-2 : tie.Need-returns-2 invariant-loop decreases-loop
+returns-2 : tie.Need-returns-then-breaks invariant-loop decreases-loop
 returns-2 c =
-    let p = c.before.before in
-    let s = p.before.before in
-    breaks_yes _ _ _ _ (found_in s) _ p.props-at.ensures (looped s).loop.behind _ c.before.breaks.ensures c.if1.true
-    ∙ sym (looped s).loop.invariant
+    breaks_yes _ _ _ _ (found_in c.before.before.before) _ c.props_at-p.ensures c.loop-i.behind _ c.breaks.ensures c.if-breaks.true
+    ∙ sym c.loop-i.invariant
 
-next-requires : tie.Need-next-requires invariant-loop decreases-loop
+next-requires : tie.Need-next-behind-requires invariant-loop decreases-loop
 next-requires c κs = search rules
 
-add-i : tie.Need-overflow-add-i invariant-loop decreases-loop
+add-i : tie.Need-overflow_add-i invariant-loop decreases-loop
 add-i c =
-    let s = c.before.before.before.before.before in
-    let f = fits_in s in omega (arith, text-fits (start (looped s)))
+    let f = fits_in c.before.before.before.before in omega (arith, text-fits c.before.before.before.before.before.before.before.before.before.before)
 
-loop-less : tie.Need-loop-smaller invariant-loop decreases-loop
+loop-less : tie.Need-loop-i-smaller invariant-loop decreases-loop
 loop-less c =
-    let s = c.before.before.before.before.before in
-    let f = fits_in s in omega (arith, text-fits (start (looped s)))
+    let f = fits_in c.before.before.before.before in omega (arith, text-fits c.before.before.before.before.before.before.before.before.before.before)
 
-loop-again : tie.Need-loop-preserved invariant-loop decreases-loop
+loop-again : tie.Need-loop-i-preserved invariant-loop decreases-loop
 loop-again c =
-    let p = c.before.before.before in
-    let s = p.before.before in
-    let l = looped s in
-    l.loop.inv
-    ∙ turn _ _ l.loop.i _ _ (found_in s) _ p.props-at.ensures l.loop.behind _ c.before.before.breaks.ensures c.before.if1.false _ c.next.ensures
+    c.loop-i.invariant
+    ∙ turn _ _ c.loop-i.i _ _ (found_in c.before.before.before.before) _ c.props_at-p.ensures c.loop-i.behind _ c.breaks.ensures c.if-breaks.false _ c.next-behind.ensures
 
-returns-3 : tie.Need-returns-3 invariant-loop decreases-loop
+returns-3 : tie.Need-returns invariant-loop decreases-loop
 returns-3 c =
-    let l = c.before in
-    breaks_past _ _ l.loop.i c.loop-test.false l.loop.behind ∙ sym l.loop.invariant
+    breaks_past _ _ c.loop-i.i c.loop-i-test.false c.loop-i.behind ∙ sym c.loop-i.invariant
 
-pub breaks-from-spec : {M : Type 1} → statement M
-breaks-from-spec =
+pub breaks_from_spec : {M : Type 1} → statement M
+breaks_from_spec =
     tie.close
     (tie.spec
     invariant-loop

@@ -10,42 +10,41 @@ use Rattle.segmentation.proofs.several_pieces.Tie as tie
 
 -- the scalar value that the first step found
 found_in :
-    (c : tie.After-step) →
-    let g = c.step.given in
-    utf8_step c.before.before.before.before.before.args.text.now ≡ Scalar g.0.0 g.0.1.0
-found_in c = sym c.before.before.utf8-step.ensures ∙ c.step.given.1
+    (c : tie.In-Scalar) →
+    let g = c.step-1.given in
+    utf8_step c.args.text.now ≡ Scalar g.0.0 g.0.1.0
+found_in c = sym c.utf8_step-step.ensures ∙ c.in-Scalar.is
 
-utf8-step-requires : tie.Need-utf8-step-requires
+utf8-step-requires : tie.Need-utf8_step-step-requires
 utf8-step-requires c κs = search rules
 
-enum_told : tie.Need-enum-told
+enum_told : tie.Need-enum_told-1
 enum_told c = search rules
 
-enum-known-step : tie.Need-enum-known-step
+enum-known-step : tie.Need-enum_known-step
 enum-known-step c = search rules
 
-returns : tie.Need-returns
-returns c = several_alone _ _ _ _ (found_in c.before.before) c.if1.true
+returns : tie.Need-returns-then-text-n
+returns c = several_alone _ _ _ _ (found_in c.before) c.if-text-n.true
 
-props-at-requires : tie.Need-props-at-requires
+props-at-requires : tie.Need-props_at-p-requires
 props-at-requires c κs = search rules
 
 first-requires : tie.Need-first-requires
 first-requires c κs = search rules
 
-breaks-from-requires : tie.Need-breaks-from-requires
+breaks-from-requires : tie.Need-breaks_from-requires
 breaks-from-requires c κs = search rules
 
-returns-2 : tie.Need-returns-2
-returns-2 c = several_bad _ _ (sym c.before.before.utf8-step.ensures ∙ c.enum_told.given.1)
+returns-2 : tie.Need-returns-in-Bad
+returns-2 c = several_bad _ _ (sym c.utf8_step-step.ensures ∙ c.in-Bad.is)
 
-returns-3 : tie.Need-returns-3
+returns-3 : tie.Need-returns-else-text-n
 returns-3 c =
-    let p = c.before.before in
-    several_first _ _ _ _ (found_in p.before.before.before) _ p.props-at.ensures _ c.before.first.ensures _ c.breaks-from.ensures
+    several_first _ _ _ _ (found_in c.before.before.before.before) _ c.props_at-p.ensures _ c.first.ensures _ c.breaks_from.ensures
 
-pub several-pieces-spec : {M : Type 1} → statement M
-several-pieces-spec =
+pub several_pieces_spec : {M : Type 1} → statement M
+several_pieces_spec =
     tie.close
     (tie.spec
     utf8-step-requires

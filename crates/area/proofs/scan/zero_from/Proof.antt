@@ -8,28 +8,34 @@ use Rattle.area.proofs.Zero.{all_zero_end, scanned}
 use Rattle.area.proofs.scan.zero_from.Statement.{statement}
 use Rattle.area.proofs.scan.zero_from.Tie as tie
 
-returns : tie.Need-returns
+returns : tie.Need-returns-then-s-n
 returns c =
-    let a = c.before.before.args in sym (all_zero_end a.n a.s.now (search rules))
+    let a = c.args in sym (all_zero_end a.n a.s.now (search rules))
 
-sub-or-all : tie.Need-overflow-sub-or-all
+sub-or-all : tie.Need-slice_bounds-or_all-count
 sub-or-all c = search rules
 
-part-or-all-start : tie.Need-slice-bounds-or-all-start
+part-or-all-start : tie.Need-slice_bounds-or_all-start
 part-or-all-start c = search rules
 
-part-or-all-end : tie.Need-slice-bounds-or-all-end
+part-or-all-end : tie.Need-slice_bounds-or_all-end
 part-or-all-end c = search rules
 
-or-all-requires : tie.Need-or-all-requires
+or-all-requires : tie.Need-or_all-requires
 or-all-requires c κs = search rules
 
-returns-2 : tie.Need-returns-2
+returns-2 : tie.Need-returns
 returns-2 c =
-    let a = c.before.before.before.before.args in
-    scanned _ _ c.or-all.ensures ∙ ap all_zero (part_rest a.n a.s.now)
+    let a = c.args in
+    scanned _ _ c.or_all.ensures ∙ ap all_zero (part_rest a.n a.s.now)
 
-pub zero-from-spec : {M : Type 1} → statement M
-zero-from-spec =
+pub zero_from_spec : {M : Type 1} → statement M
+zero_from_spec =
     tie.close
-    (tie.spec returns sub-or-all part-or-all-start part-or-all-end or-all-requires returns-2)
+    (tie.spec
+    returns
+    sub-or-all
+    part-or-all-start
+    part-or-all-end
+    or-all-requires
+    returns-2)

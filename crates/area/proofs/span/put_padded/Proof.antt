@@ -10,34 +10,32 @@ use Rattle.area.proofs.Splice.{chain}
 use Rattle.area.proofs.span.put_padded.Statement.{statement}
 use Rattle.area.proofs.span.put_padded.Tie as tie
 
-copy-part-requires : tie.Need-copy-part-requires
+copy-part-requires : tie.Need-copy_part-requires
 copy-part-requires c κs = search rules
 
-add-put-zeros : tie.Need-overflow-add-put-zeros
+add-put-zeros : tie.Need-overflow_add-at
 add-put-zeros c = search rules
 
-sub-put-zeros : tie.Need-overflow-sub-put-zeros
+sub-put-zeros : tie.Need-overflow_sub-width
 sub-put-zeros c = search rules
 
-put-zeros-requires : tie.Need-put-zeros-requires
+put-zeros-requires : tie.Need-put_zeros-requires
 put-zeros-requires c κs = search rules
 
-same_length : tie.Need-same-length
+same_length : tie.Need-shape_of-s
 same_length c = search rules
 
 returns : tie.Need-returns
 unfolding padded
 returns c =
-    let zeros = c.before.before in
-    let copy = zeros.before.before.before.before in
-    let a = copy.before.before.before.before.args in
+    let a = c.args in
     let t = a.t.now in
     chain a.at (length t) t (replicate (a.width - length t) 0) a.s.now refl
-    (rw (take-length t) at copy.copy-part.ensures)
-    zeros.put-zeros.ensures
+    (rw (take-length t) at c.copy_part.ensures)
+    c.put_zeros.ensures
 
-pub put-padded-spec : {M : Type 1} → statement M
-put-padded-spec =
+pub put_padded_spec : {M : Type 1} → statement M
+put_padded_spec =
     tie.close
     (tie.spec
     copy-part-requires

@@ -4,19 +4,19 @@ use Rattle.event.proofs.character.ControlCounts.{no_control, counts_always, coun
 use Rattle.event.proofs.character.control_counts.Statement.{statement}
 use Rattle.event.proofs.character.control_counts.Tie as tie
 
-returns : tie.Need-returns
-returns c = let s = c.before.before in no_control s.args.alt-graph s.args.mods.control s.args.mods.alt c.if1.true
+returns : tie.Need-returns-then-not-mods
+returns c = no_control c.args.alt_graph c.args.mods.control c.args.mods.alt c.if-not-mods.true
 
-returns-2 : tie.Need-returns-2
+returns-2 : tie.Need-returns-then-not-alt_graph
 returns-2 c =
-    let s = c.before.before.before in
-    counts_always s.args.alt-graph s.args.mods.control s.args.mods.alt c.before.if1.false c.if2.true
+    counts_always c.args.alt_graph c.args.mods.control c.args.mods.alt c.if-not-mods.false c.if-not-alt_graph.true-raw
 
-returns-3 : tie.Need-returns-3
+returns-3 : tie.Need-returns
 returns-3 c =
-    let e = c.before in
-    let s = e.before.before.before in
-    counts_without_alt s.args.alt-graph s.args.mods.control s.args.mods.alt e.before.if1.false e.if2.false
+    counts_without_alt c.args.alt_graph c.args.mods.control c.args.mods.alt c.if-not-mods.false c.if-not-alt_graph.false-raw
 
-pub control-counts-spec : {M : Type 1} → statement M
-control-counts-spec = tie.close (tie.spec returns returns-2 returns-3)
+pub control_counts_spec : {M : Type 1} → statement M
+control_counts_spec = tie.close (tie.spec
+    returns
+    returns-2
+    returns-3)

@@ -13,75 +13,71 @@ use Rattle.event.proofs.character.last_text.Tie as tie
 
 -- ---- the way back to the modifiers, and to the start
 
-abbrev start : tie.After-active-modifiers → tie.Start
+abbrev start : tie.After-active_modifiers-mods → tie.Start
 start c = c.before.before.before
 
-abbrev held : tie.After-control-counts → tie.After-active-modifiers
+abbrev held : tie.After-control_counts → tie.After-active_modifiers-mods
 held c = c.before.before
 
 -- from what the layout is asked with
-abbrev asked : tie.After-num-lock-on → tie.Then1
+abbrev asked : tie.After-num_lock_on-num_lock → tie.Then-control_counts
 asked c = c.before.before
 
 -- ---- whether Control counts, and the layout's key where it does
 
 counted-in :
-    (c : tie.After-control-counts) →
-    let a = (start (held c)).args in control_counts (keyboard_at a.state.now a.block.now) ≡ c.control-counts.result
+    (c : tie.After-control_counts) →
+    let a = c.args in control_counts (keyboard_at a.state.now a.block.now) ≡ c.control_counts.result
 counted-in c =
-    let a = (start (held c)).args in
-    counted a.block.now a.state.now (args c.control-counts).0 (held c).active-modifiers.ensures
-    c.before.has-alt-graph.ensures c.control-counts.ensures (refl, refl)
+    let a = c.args in
+    counted a.block.now a.state.now (args c.control_counts).0 c.active_modifiers-mods.ensures
+    c.has_alt_graph-alt_graph.ensures c.control_counts.ensures (refl, refl)
 
 layout-in :
-    (c : tie.After-layout-key) →
-    let a = (start (held (asked c.before).before)).args in
-    key_in a.block.now c.layout-key.result ≡ layout_key (keyboard_at a.state.now a.block.now) a.vkey a.scancode
+    (c : tie.After-layout_key-k) →
+    let a = c.args in
+    key_in a.block.now c.layout_key-k.result ≡ layout_key (keyboard_at a.state.now a.block.now) a.vkey a.scancode
 layout-in c =
-    let num = c.before in
-    let mods = held (asked num).before in
-    let a = (start mods).args in
-    as_typed a.block.now a.state.now a.vkey a.scancode _ c.layout-key.ensures.0 mods.active-modifiers.ensures
-    num.before.remove-only-ctrl.ensures num.num-lock-on.ensures (refl, refl, refl, refl)
+    let a = c.args in
+    as_typed a.block.now a.state.now a.vkey a.scancode _ c.layout_key-k.ensures.0 c.active_modifiers-mods.ensures
+    c.remove_only_ctrl-shown.ensures c.num_lock_on-num_lock.ensures (refl, refl, refl, refl)
 
 -- ---- the needs
 
-active-modifiers-requires : tie.Need-active-modifiers-requires
+active-modifiers-requires : tie.Need-active_modifiers-mods-requires
 active-modifiers-requires c κs = tt
 
-has-alt-graph-requires : tie.Need-has-alt-graph-requires
-has-alt-graph-requires c κs = (start c).requires
+has-alt-graph-requires : tie.Need-has_alt_graph-alt_graph-requires
+has-alt-graph-requires c κs = c.requires
 
-control-counts-requires : tie.Need-control-counts-requires
+control-counts-requires : tie.Need-control_counts-requires
 control-counts-requires c κs = tt
 
-remove-only-ctrl-requires : tie.Need-remove-only-ctrl-requires
+remove-only-ctrl-requires : tie.Need-remove_only_ctrl-shown-requires
 remove-only-ctrl-requires c κs = tt
 
-num-lock-on-requires : tie.Need-num-lock-on-requires
+num-lock-on-requires : tie.Need-num_lock_on-num_lock-requires
 num-lock-on-requires c κs = tt
 
-layout-key-requires : tie.Need-layout-key-requires
-layout-key-requires c κs = (start (held (asked c).before)).requires
+layout-key-requires : tie.Need-layout_key-k-requires
+layout-key-requires c κs = c.requires
 
-to-text-requires : tie.Need-to-text-requires
+to-text-requires : tie.Need-to_text-text-requires
 to-text-requires c κs = tt
 
-returns : tie.Need-returns
+returns : tie.Need-returns-then-control_counts
 returns c =
-    let key = c.before in
-    let test = asked key.before in
-    let a = (start (held test.before)).args in
-    layout_gives a.block.now a.state.now a.vkey a.scancode (counted-in test.before ∙ test.if1.taken) _ _ (layout-in key)
-    key.layout-key.ensures.1 c.to-text.ensures refl
+    let a = c.args in
+    layout_gives a.block.now a.state.now a.vkey a.scancode (counted-in c.before.before.before.before.before ∙ c.if-control_counts.taken) _ _ (layout-in c.before)
+    c.layout_key-k.ensures.1 c.to_text-text.ensures refl
 
-returns-2 : tie.Need-returns-2
+returns-2 : tie.Need-returns
 returns-2 c =
-    let a = (start (held c.before)).args in
-    units_give a.block.now a.state.now a.vkey a.scancode (counted-in c.before ∙ c.if1.false)
+    let a = c.args in
+    units_give a.block.now a.state.now a.vkey a.scancode (counted-in c.before ∙ c.if-control_counts.false)
 
-pub last-text-spec : {M : Type 1} → statement M
-last-text-spec =
+pub last_text_spec : {M : Type 1} → statement M
+last_text_spec =
     tie.close
     (tie.spec
     active-modifiers-requires

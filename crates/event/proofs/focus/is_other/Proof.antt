@@ -43,19 +43,19 @@ table =
 at : {x k : ℕ} → x ≡ k → is_other k ≡ is_other x
 at h = sym (ap is_other h)
 
-pub is-other-spec : {M : Type 1} → statement M
+pub is_other_spec : {M : Type 1} → statement M
 unfolding arms table assoc is_other
-is-other-spec =
+is_other_spec =
     tie.close
     (tie.spec
-    (λ c. at c.match.keys1)
-    (λ c. at c.match.keys2)
-    (λ c. at c.match.keys3)
-    (λ c. at c.match.keys4)
-    (λ c. at c.match.keys5)
-    (λ c. at c.match.keys6)
-    (λ c. at c.match.keys7)
-    (λ c. at c.match.keys8)
-    (λ c. at c.match.keys9)
-    (λ c. at c.match.keys10)
-    (λ c. missed arms c.before.args.vk true table c.match.rest tt))
+    (λ c. at c.in-16.is)
+    (λ c. at c.in-17.is)
+    (λ c. at c.in-18.is)
+    (λ c. at c.in-20.is)
+    (λ c. at c.in-160.is)
+    (λ c. at c.in-161.is)
+    (λ c. at c.in-162.is)
+    (λ c. at c.in-163.is)
+    (λ c. at c.in-164.is)
+    (λ c. at c.in-165.is)
+    (λ c. missed arms c.before.args.vk true table c.in_default.in_default-own.rest tt))

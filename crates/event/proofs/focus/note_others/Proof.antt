@@ -9,41 +9,40 @@ use Rattle.event.proofs.focus.Keys.{OthersLeft, others_start, others_turn, other
 use Rattle.event.proofs.focus.note_others.Statement.{statement}
 use Rattle.event.proofs.focus.note_others.Tie as tie
 
-abbrev invariant-loop : tie.invariant-loop
+abbrev invariant-loop : tie.invariant-loop-vk
 invariant-loop keys₀ from state block at₀ vk₀ keys at vk =
     OthersLeft (keyboard_at state block) from (take from keys₀) vk at keys
 
-abbrev decreases-loop : tie.decreases-loop
+abbrev decreases-loop : tie.decreases-loop-vk
 decreases-loop keys₀ from state block at₀ vk₀ keys at vk = KEYS - vk
 
-loop-holds : tie.Need-loop-init invariant-loop decreases-loop
-loop-holds c = others_start _ _ _ c.before.before.requires.1
+loop-holds : tie.Need-loop-vk-init invariant-loop decreases-loop
+loop-holds c = others_start _ _ _ c.requires.1
 
-cast-note-other : tie.Need-overflow-cast-note-other invariant-loop decreases-loop
+cast-note-other : tie.Need-overflow_cast-vk invariant-loop decreases-loop
 cast-note-other c = search rules
 
-note-other-requires : tie.Need-note-other-requires invariant-loop decreases-loop
+note-other-requires : tie.Need-note_other-at-requires invariant-loop decreases-loop
 note-other-requires c κs = search rules
 
-add-vk : tie.Need-overflow-add-vk invariant-loop decreases-loop
+add-vk : tie.Need-overflow_add-vk invariant-loop decreases-loop
 add-vk c = search rules
 
-loop-less : tie.Need-loop-smaller invariant-loop decreases-loop
+loop-less : tie.Need-loop-vk-smaller invariant-loop decreases-loop
 loop-less c = search rules
 
-loop-again : tie.Need-loop-preserved invariant-loop decreases-loop
+loop-again : tie.Need-loop-vk-preserved invariant-loop decreases-loop
 loop-again c =
-    let turn = c.before.before.before in
-    let a = turn.before.before.before.args in
-    others_turn _ _ (take a.from a.keys.now) _ _ _ _ _ (search rules) turn.loop.invariant c.note-other.ensures
+    let a = c.args in
+    others_turn _ _ (take a.from a.keys.now) _ _ _ _ _ (search rules) c.loop-vk.invariant c.note_other-at.ensures
 
 returns : tie.Need-returns invariant-loop decreases-loop
 returns c =
-    let a = c.before.before.before.before.args in
-    others_end _ _ (take a.from a.keys.now) _ _ _ (search rules) c.before.loop.invariant
+    let a = c.args in
+    others_end _ _ (take a.from a.keys.now) _ _ _ (search rules) c.loop-vk.invariant
 
-pub note-others-spec : {M : Type 1} → statement M
-note-others-spec =
+pub note_others_spec : {M : Type 1} → statement M
+note_others_spec =
     tie.close
     (tie.spec
     invariant-loop

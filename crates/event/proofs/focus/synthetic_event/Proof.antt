@@ -12,73 +12,64 @@ use Rattle.event.proofs.focus.synthetic_event.Tie as tie
 
 -- ---- the way back to the scan code, and to the start
 
-abbrev start : tie.After-scancode-for → tie.Start
+abbrev start : tie.After-scancode_for-scancode → tie.Start
 start c = c.before.before.before
 
-abbrev scanned : tie.After-layout-key → tie.After-scancode-for
+abbrev scanned : tie.After-layout_key-logical_key → tie.After-scancode_for-scancode
 scanned c = c.before.before.before
 
 -- ---- the layout's keys: with the toggles alone, and without modifiers
 
 logical-in :
-    (c : tie.After-layout-key) →
-    let s = scanned c in
-    let a = (start s).args in key_in a.block.now c.layout-key.result ≡ focus_key (keyboard_at a.state.now a.block.now) a.vk s.scancode-for.result
+    (c : tie.After-layout_key-logical_key) →
+    let a = c.args in key_in a.block.now c.layout_key-logical_key.result ≡ focus_key (keyboard_at a.state.now a.block.now) a.vk c.scancode_for-scancode.result
 logical-in c =
-    let num = c.before in
-    let a = (start (scanned c)).args in
-    focused a.block.now a.state.now a.vk (scanned c).scancode-for.result _ num.before.caps-lock-on.ensures num.num-lock-on.ensures
-    c.layout-key.ensures.0 (refl, refl, refl, refl)
+    let a = c.args in
+    focused a.block.now a.state.now a.vk c.scancode_for-scancode.result _ c.caps_lock_on-caps_lock.ensures c.num_lock_on-num_lock.ensures
+    c.layout_key-logical_key.ensures.0 (refl, refl, refl, refl)
 
 plain_in :
-    (c : tie.After-layout-key2) →
-    let s = scanned c.before in
-    let a = (start s).args in key_in a.block.now c.layout-key2.result ≡ plain_key (keyboard_at a.state.now a.block.now) a.vk s.scancode-for.result
+    (c : tie.After-layout_key-key_without_modifiers) →
+    let a = c.args in key_in a.block.now c.layout_key-key_without_modifiers.result ≡ plain_key (keyboard_at a.state.now a.block.now) a.vk c.scancode_for-scancode.result
 plain_in c =
-    let s = scanned c.before in
-    let a = (start s).args in
-    plainly a.block.now a.state.now a.vk s.scancode-for.result _ c.layout-key2.ensures.0 (refl, refl, refl, refl)
+    let a = c.args in
+    plainly a.block.now a.state.now a.vk c.scancode_for-scancode.result _ c.layout_key-key_without_modifiers.ensures.0 (refl, refl, refl, refl)
 
 -- ---- the needs
 
-scancode-for-requires : tie.Need-scancode-for-requires
-scancode-for-requires c κs = c.before.before.requires
+scancode-for-requires : tie.Need-scancode_for-scancode-requires
+scancode-for-requires c κs = c.requires
 
-caps-lock-on-requires : tie.Need-caps-lock-on-requires
+caps-lock-on-requires : tie.Need-caps_lock_on-caps_lock-requires
 caps-lock-on-requires c κs = tt
 
-num-lock-on-requires : tie.Need-num-lock-on-requires
+num-lock-on-requires : tie.Need-num_lock_on-num_lock-requires
 num-lock-on-requires c κs = tt
 
-layout-key-requires : tie.Need-layout-key-requires
-layout-key-requires c κs = (start c.before.before).requires
+layout-key-requires : tie.Need-layout_key-logical_key-requires
+layout-key-requires c κs = c.requires
 
-layout-key-requires-2 : tie.Need-layout-key-requires-2
-layout-key-requires-2 c κs = (start (scanned c)).requires
+layout-key-requires-2 : tie.Need-layout_key-key_without_modifiers-requires
+layout-key-requires-2 c κs = c.requires
 
-focus-text-requires : tie.Need-focus-text-requires
+focus-text-requires : tie.Need-focus_text-text-requires
 focus-text-requires c κs = tt
 
-keycode-from-scancode-requires : tie.Need-keycode-from-scancode-requires
+keycode-from-scancode-requires : tie.Need-keycode_from_scancode-physical_key-requires
 keycode-from-scancode-requires c κs = tt
 
-get-location-requires : tie.Need-get-location-requires
-get-location-requires c κs = (start (scanned c.before.before.before)).requires
+get-location-requires : tie.Need-get_location-location-requires
+get-location-requires c κs = c.requires
 
 returns : tie.Need-returns
 returns c =
-    let code = c.before in
-    let text = code.before in
-    let plain = text.before in
-    let logical = plain.before in
-    let s = scanned logical in
-    let a = (start s).args in
-    whole a.block.now a.state.now a.vk a.st _ _ _ s.scancode-for.ensures (logical-in logical) (plain_in plain) text.focus-text.ensures
-    code.keycode-from-scancode.ensures c.get-location.ensures logical.layout-key.ensures.1 plain.layout-key2.ensures.1
+    let a = c.args in
+    whole a.block.now a.state.now a.vk a.st _ _ _ c.scancode_for-scancode.ensures (logical-in c.before.before.before.before) (plain_in c.before.before.before) c.focus_text-text.ensures
+    c.keycode_from_scancode-physical_key.ensures c.get_location-location.ensures c.layout_key-logical_key.ensures.1 c.layout_key-key_without_modifiers.ensures.1
     (refl, refl, refl, refl, refl) _ refl
 
-pub synthetic-event-spec : {M : Type 1} → statement M
-synthetic-event-spec =
+pub synthetic_event_spec : {M : Type 1} → statement M
+synthetic_event_spec =
     tie.close
     (tie.spec
     scancode-for-requires

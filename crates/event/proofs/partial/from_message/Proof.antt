@@ -11,94 +11,86 @@ use Rattle.event.proofs.partial.from_message.Tie as tie
 
 -- ---- the way back to the scan code, and to the start
 
-abbrev start : tie.After-message-scancode → tie.Start
+abbrev start : tie.After-message_scancode-scancode → tie.Start
 start c = c.before.before.before
 
-abbrev scanned : tie.After-forced-key → tie.After-message-scancode
+abbrev scanned : tie.After-forced_key-forced → tie.After-message_scancode-scancode
 scanned c = c.before.before.before.before
 
 -- from what the layout is asked with
-abbrev forced : tie.After-remove-only-ctrl → tie.After-forced-key
+abbrev forced : tie.After-remove_only_ctrl-shown → tie.After-forced_key-forced
 forced c = c.before.before.before
 
 -- ---- what is known by the scan code
 
 known_in :
-    (c : tie.After-forced-key) →
-    let a = (start (scanned c)).args in
-    Known a.block.now a.state.now a.vkey a.l (scanned c).message-scancode.result c.before.before.get-location.result c.forced-key.result
+    (c : tie.After-forced_key-forced) →
+    let a = c.args in
+    Known a.block.now a.state.now a.vkey a.l c.message_scancode-scancode.result c.get_location-location.result c.forced_key-forced.result
 known_in c =
-    let a = (start (scanned c)).args in
-    let code = c.before in
-    let location = code.before in
-    known a.block.now a.state.now a.vkey a.l c.forced-key.result (scanned c).message-scancode.ensures location.before.active-modifiers.ensures
-    location.get-location.ensures code.keycode-from-scancode.ensures c.forced-key.ensures (refl, refl, refl)
+    let a = c.args in
+    known a.block.now a.state.now a.vkey a.l c.forced_key-forced.result c.message_scancode-scancode.ensures c.active_modifiers-mods.ensures
+    c.get_location-location.ensures c.keycode_from_scancode.ensures c.forced_key-forced.ensures (refl, refl, refl)
 
 -- ---- the layout's keys: as typed, and without modifiers
 
 logical-in :
-    (c : tie.After-layout-key) →
-    let s = scanned (forced c.before) in
-    let a = (start s).args in key_in a.block.now c.layout-key.result ≡ layout_key (keyboard_at a.state.now a.block.now) a.vkey s.message-scancode.result
+    (c : tie.After-layout_key-logical_key) →
+    let a = c.args in key_in a.block.now c.layout_key-logical_key.result ≡ layout_key (keyboard_at a.state.now a.block.now) a.vkey c.message_scancode-scancode.result
 logical-in c =
-    let shown = c.before in
-    let mods = (forced shown).before.before.before in
-    let a = (start mods.before).args in
-    as_typed a.block.now a.state.now a.vkey _ _ c.layout-key.ensures.0 mods.active-modifiers.ensures
-    shown.remove-only-ctrl.ensures shown.before.num-lock-on.ensures (refl, refl, refl, refl)
+    let a = c.args in
+    as_typed a.block.now a.state.now a.vkey _ _ c.layout_key-logical_key.ensures.0 c.active_modifiers-mods.ensures
+    c.remove_only_ctrl-shown.ensures c.num_lock_on-num_lock.ensures (refl, refl, refl, refl)
 
 plain_in :
-    (c : tie.After-layout-key2) →
-    let s = scanned (forced c.before.before) in
-    let a = (start s).args in key_in a.block.now c.layout-key2.result ≡ plain_key (keyboard_at a.state.now a.block.now) a.vkey s.message-scancode.result
+    (c : tie.After-layout_key-key_without_modifiers) →
+    let a = c.args in key_in a.block.now c.layout_key-key_without_modifiers.result ≡ plain_key (keyboard_at a.state.now a.block.now) a.vkey c.message_scancode-scancode.result
 plain_in c =
-    let a = (start (scanned (forced c.before.before))).args in
-    plainly a.block.now a.state.now a.vkey _ _ c.layout-key2.ensures.0 (refl, refl, refl, refl)
+    let a = c.args in
+    plainly a.block.now a.state.now a.vkey _ _ c.layout_key-key_without_modifiers.ensures.0 (refl, refl, refl, refl)
 
 -- ---- the needs
 
-message-scancode-requires : tie.Need-message-scancode-requires
-message-scancode-requires c κs = c.before.before.requires
+message-scancode-requires : tie.Need-message_scancode-scancode-requires
+message-scancode-requires c κs = c.requires
 
-active-modifiers-requires : tie.Need-active-modifiers-requires
+active-modifiers-requires : tie.Need-active_modifiers-mods-requires
 active-modifiers-requires c κs = tt
 
-get-location-requires : tie.Need-get-location-requires
-get-location-requires c κs = (start c.before).requires
+get-location-requires : tie.Need-get_location-location-requires
+get-location-requires c κs = c.requires
 
-keycode-from-scancode-requires : tie.Need-keycode-from-scancode-requires
+keycode-from-scancode-requires : tie.Need-keycode_from_scancode-requires
 keycode-from-scancode-requires c κs = tt
 
-forced-key-requires : tie.Need-forced-key-requires
+forced-key-requires : tie.Need-forced_key-forced-requires
 forced-key-requires c κs = tt
 
-returns : tie.Need-returns
+returns : tie.Need-returns-then-forced-ne0
 returns c =
-    let a = (start (scanned c.before)).args in
-    by_force a.block.now a.state.now a.vkey a.l c.before.forced-key.result (known_in c.before) c.if1.true
+    let a = c.args in
+    by_force a.block.now a.state.now a.vkey a.l c.forced_key-forced.result (known_in c.before) c.if-forced-ne0.true
 
-num-lock-on-requires : tie.Need-num-lock-on-requires
+num-lock-on-requires : tie.Need-num_lock_on-num_lock-requires
 num-lock-on-requires c κs = tt
 
-remove-only-ctrl-requires : tie.Need-remove-only-ctrl-requires
+remove-only-ctrl-requires : tie.Need-remove_only_ctrl-shown-requires
 remove-only-ctrl-requires c κs = tt
 
-layout-key-requires : tie.Need-layout-key-requires
-layout-key-requires c κs = (start (scanned (forced c))).requires
+layout-key-requires : tie.Need-layout_key-logical_key-requires
+layout-key-requires c κs = c.requires
 
-layout-key-requires-2 : tie.Need-layout-key-requires-2
-layout-key-requires-2 c κs = (start (scanned (forced c.before))).requires
+layout-key-requires-2 : tie.Need-layout_key-key_without_modifiers-requires
+layout-key-requires-2 c κs = c.requires
 
-returns-2 : tie.Need-returns-2
+returns-2 : tie.Need-returns
 returns-2 c =
-    let logical = c.before in
-    let test = logical.before.before.before in
-    let a = (start (scanned test.before)).args in
-    by_layout a.block.now a.state.now a.vkey a.l test.before.forced-key.result (known_in test.before) test.if1.false _ _
-    (logical-in logical, logical.layout-key.ensures.1) (plain_in c, c.layout-key2.ensures.1)
+    let a = c.args in
+    by_layout a.block.now a.state.now a.vkey a.l c.forced_key-forced.result (known_in c.before.before.before.before.before) c.if-forced-ne0.false _ _
+    (logical-in c.before, c.layout_key-logical_key.ensures.1) (plain_in c, c.layout_key-key_without_modifiers.ensures.1)
 
-pub from-message-spec : {M : Type 1} → statement M
-from-message-spec =
+pub from_message_spec : {M : Type 1} → statement M
+from_message_spec =
     tie.close
     (tie.spec
     message-scancode-requires

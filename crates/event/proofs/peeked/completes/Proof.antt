@@ -7,14 +7,17 @@ use Rattle.event.proofs.peeked.Peeks.{none_completed, completed_last}
 use Rattle.event.proofs.peeked.completes.Statement.{statement}
 use Rattle.event.proofs.peeked.completes.Tie as tie
 
-returns : tie.Need-returns
-returns c = none_completed c.before.args.held (more_coming (as_peeked c.before.args.peeked)) c.if1.true
+returns : tie.Need-returns-then-not-held
+returns c = none_completed c.args.held (more_coming (as_peeked c.args.peeked)) c.if-not-held.true-raw
 
-more-coming-requires : tie.Need-more-coming-requires
+more-coming-requires : tie.Need-more_coming-requires
 more-coming-requires c κs = search rules
 
-returns-2 : tie.Need-returns-2
-returns-2 c = completed_last c.before.before.args.held (more_coming (as_peeked c.before.before.args.peeked)) c.before.if1.false c.more-coming.ensures
+returns-2 : tie.Need-returns
+returns-2 c = completed_last c.args.held (more_coming (as_peeked c.args.peeked)) c.if-not-held.false-raw c.more_coming.ensures
 
-pub completes-spec : {M : Type 1} → statement M
-completes-spec = tie.close (tie.spec returns more-coming-requires returns-2)
+pub completes_spec : {M : Type 1} → statement M
+completes_spec = tie.close (tie.spec
+    returns
+    more-coming-requires
+    returns-2)

@@ -7,20 +7,25 @@ use borrow.Author.Rules.{rules}
 use Rattle.event.proofs.peeked.holds.Statement.{statement}
 use Rattle.event.proofs.peeked.holds.Tie as tie
 
-enum_told : tie.Need-enum-told
+enum_told : tie.Need-enum_told-1
 enum_told c = search rules
 
-enum-known-peeked : tie.Need-enum-known-peeked
+enum-known-peeked : tie.Need-enum_known-peeked
 enum-known-peeked c = search rules
 
-kind-holds-requires : tie.Need-kind-holds-requires
+kind-holds-requires : tie.Need-kind_holds-requires
 kind-holds-requires c κs = search rules
 
-returns : tie.Need-returns
-returns c = none_holds _ (peeked_none _ c.enum_told.given.1)
+returns : tie.Need-returns-in-Nothing
+returns c = none_holds _ (peeked_none _ c.in-Nothing.is)
 
-returns-2 : tie.Need-returns-2
-returns-2 c = c.kind-holds.ensures _ _ ∙ ap holds (sym (peeked_some _ _ _ _ c.before.before.peeked.given.1))
+returns-2 : tie.Need-returns-in-Message
+returns-2 c = c.kind_holds.ensures _ _ ∙ ap holds (sym (peeked_some _ _ _ _ c.in-Message.is))
 
-pub holds-spec : {M : Type 1} → statement M
-holds-spec = tie.close (tie.spec enum_told enum-known-peeked kind-holds-requires returns returns-2)
+pub holds_spec : {M : Type 1} → statement M
+holds_spec = tie.close (tie.spec
+    enum_told
+    enum-known-peeked
+    kind-holds-requires
+    returns
+    returns-2)

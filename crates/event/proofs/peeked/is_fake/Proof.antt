@@ -10,26 +10,30 @@ use borrow.Author.Rules.{rules}
 use Rattle.event.proofs.peeked.is_fake.Statement.{statement}
 use Rattle.event.proofs.peeked.is_fake.Tie as tie
 
-enum_told : tie.Need-enum-told
+enum_told : tie.Need-enum_told-1
 enum_told c = search rules
 
-enum-known-peeked : tie.Need-enum-known-peeked
+enum-known-peeked : tie.Need-enum_known-peeked
 enum-known-peeked c = search rules
 
-is-current-fake-requires : tie.Need-is-current-fake-requires
+is-current-fake-requires : tie.Need-is_current_fake-requires
 is-current-fake-requires c κs = search rules
 
-returns : tie.Need-returns
-returns c = λ state n e. none_fake _ _ _ (peeked_none _ c.enum_told.given.1)
+returns : tie.Need-returns-in-Nothing
+returns c = λ state n e. none_fake _ _ _ (peeked_none _ c.in-Nothing.is)
 
-returns-2 : tie.Need-returns-2
+returns-2 : tie.Need-returns-in-Message
 returns-2 c =
     λ state n e.
-    let told = c.before.before in
-    let a = told.before.before.before.args in
-    c.is-current-fake.ensures state n e
-    ∙ ap (λ (p : Option Message). fake (keyboard_at state a.block.now) n p) (sym (peeked_some _ _ _ _ told.peeked.given.1))
+    let a = c.args in
+    c.is_current_fake.ensures state n e
+    ∙ ap (λ (p : Option Message). fake (keyboard_at state a.block.now) n p) (sym (peeked_some _ _ _ _ c.in-Message.is))
 
-pub is-fake-spec : {M : Type 1} → statement M
-is-fake-spec =
-    tie.close (tie.spec enum_told enum-known-peeked is-current-fake-requires returns returns-2)
+pub is_fake_spec : {M : Type 1} → statement M
+is_fake_spec =
+    tie.close (tie.spec
+    enum_told
+    enum-known-peeked
+    is-current-fake-requires
+    returns
+    returns-2)

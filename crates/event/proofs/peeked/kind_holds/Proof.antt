@@ -24,13 +24,13 @@ at :
     holds (some (record { kind = k; wparam = w; lparam = l })) ≡ holds (some (record { kind = x; wparam = w; lparam = l }))
 at w l h = sym (ap (λ (n : ℕ). holds (some (record { kind = n; wparam = w; lparam = l }))) h)
 
-pub kind-holds-spec : {M : Type 1} → statement M
+pub kind_holds_spec : {M : Type 1} → statement M
 unfolding assoc holds
-kind-holds-spec =
+kind_holds_spec =
     tie.close
     (tie.spec
-    (λ c w l. at w l c.match.keys1)
-    (λ c w l. at w l c.match.keys2)
-    (λ c w l. at w l c.match.keys3)
-    (λ c w l. at w l c.match.keys4)
-    (λ c w l. missed arms c.before.args.kind true table c.match.rest tt))
+    (λ c w l. at w l c.in-256.is)
+    (λ c w l. at w l c.in-257.is)
+    (λ c w l. at w l c.in-260.is)
+    (λ c w l. at w l c.in-261.is)
+    (λ c w l. missed arms c.before.args.kind true table c.in_default.in_default-own.rest tt))

@@ -24,11 +24,11 @@ at :
     more_coming (some (record { kind = k; wparam = w; lparam = l })) ≡ more_coming (some (record { kind = x; wparam = w; lparam = l }))
 at w l h = sym (ap (λ (n : ℕ). more_coming (some (record { kind = n; wparam = w; lparam = l }))) h)
 
-pub kind-more-spec : {M : Type 1} → statement M
+pub kind_more_spec : {M : Type 1} → statement M
 unfolding assoc more_coming
-kind-more-spec =
+kind_more_spec =
     tie.close
     (tie.spec
-    (λ c w l. at w l c.match.keys1)
-    (λ c w l. at w l c.match.keys2)
-    (λ c w l. missed arms c.before.args.kind false table c.match.rest tt))
+    (λ c w l. at w l c.in-258.is)
+    (λ c w l. at w l c.in-262.is)
+    (λ c w l. missed arms c.before.args.kind false table c.in_default.in_default-own.rest tt))

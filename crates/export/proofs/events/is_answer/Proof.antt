@@ -6,20 +6,25 @@ use Rattle.export.proofs.events.Place.{no_size, no_number, is_number}
 use Rattle.export.proofs.events.is_answer.Statement.{statement}
 use Rattle.export.proofs.events.is_answer.Tie as tie
 
-returns : tie.Need-returns
-returns c = no_size _ c.if1.true
+returns : tie.Need-returns-then-answers-ne-AREA_SIZE
+returns c = no_size _ c.if-answers-ne-AREA_SIZE.true
 
-get-u16-requires : tie.Need-get-u16-requires
+get-u16-requires : tie.Need-get_u16-n-requires
 get-u16-requires c κs = search rules
 
-cast-if2 : tie.Need-overflow-cast-if2
+cast-if2 : tie.Need-overflow_cast-n
 cast-if2 c = search rules
 
-returns-2 : tie.Need-returns-2
-returns-2 c = no_number _ c.before.before.if1.false c.before.get-u16.ensures refl c.if2.true
+returns-2 : tie.Need-returns-then-n-gt-ENTRIES_MOST
+returns-2 c = no_number _ c.if-answers-ne-AREA_SIZE.false c.get_u16-n.ensures refl c.if-n-gt-ENTRIES_MOST.true
 
-returns-3 : tie.Need-returns-3
-returns-3 c = is_number _ c.before.before.if1.false c.before.get-u16.ensures refl c.if2.false
+returns-3 : tie.Need-returns
+returns-3 c = is_number _ c.if-answers-ne-AREA_SIZE.false c.get_u16-n.ensures refl c.if-n-gt-ENTRIES_MOST.false
 
-pub is-answer-spec : {M : Type 1} → statement M
-is-answer-spec = tie.close (tie.spec returns get-u16-requires cast-if2 returns-2 returns-3)
+pub is_answer_spec : {M : Type 1} → statement M
+is_answer_spec = tie.close (tie.spec
+    returns
+    get-u16-requires
+    cast-if2
+    returns-2
+    returns-3)

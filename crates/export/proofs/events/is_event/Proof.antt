@@ -13,68 +13,62 @@ use Rattle.export.proofs.events.is_event.Statement.{statement}
 use Rattle.export.proofs.events.is_event.Tie as tie
 
 -- from the test of the area back to the start
-abbrev start : tie.Else1 → tie.Start
+abbrev start : tie.Else-not-is_answer → tie.Start
 start c = c.before.before.before
 
-is-answer-requires : tie.Need-is-answer-requires
+is-answer-requires : tie.Need-is_answer-requires
 is-answer-requires c κs = search rules
 
-returns : tie.Need-returns
-returns c = no_answer _ _ c.before.is-answer.ensures (not-true _ c.if1.true)
+returns : tie.Need-returns-then-not-is_answer
+returns c = no_answer _ _ c.is_answer.ensures (not-true _ c.if-not-is_answer.true-raw)
 
-get-u16-requires : tie.Need-get-u16-requires
-get-u16-requires c κs = omega (arith, sized _ (start c).args.i c.before.is-answer.ensures (not-false _ c.if1.false))
+get-u16-requires : tie.Need-get_u16-events-requires
+get-u16-requires c κs = omega (arith, sized _ c.args.i c.is_answer.ensures (not-false _ c.if-not-is_answer.false-raw))
 
-cast-if2 : tie.Need-overflow-cast-if2
+cast-if2 : tie.Need-overflow_cast-events
 cast-if2 c = search rules
 
 -- what the test of the number says on each side
-past-last : (c : tie.Then2) → c.before.get-u16.result ≤ (start c.before.before).args.i
-past-last c = c.if2.true
+past-last : (c : tie.Then-events-i) → c.get_u16-events.result ≤ c.args.i
+past-last c = c.if-events-i.true
 
-in_list : (c : tie.Else2) → (start c.before.before).args.i < c.before.get-u16.result
-in_list c = c.if2.false
+in_list : (c : tie.Else-events-i) → c.args.i < c.get_u16-events.result
+in_list c = c.if-events-i.false
 
 -- the event is within the area
-room_in : (c : tie.Else2) → let a = (start c.before.before).args in place a.i + ANSWER_EVENT_SIZE ≤ length a.answers.now
+room_in : (c : tie.Else-events-i) → let a = c.args in place a.i + ANSWER_EVENT_SIZE ≤ length a.answers.now
 room_in c =
-    let whole = c.before.before in
-    room _ (start whole).args.i whole.before.is-answer.ensures (not-false _ whole.if1.false) c.before.get-u16.ensures refl (in_list c)
+    room _ c.args.i c.is_answer.ensures (not-false _ c.if-not-is_answer.false-raw) c.get_u16-events.ensures refl (in_list c)
 
-returns-2 : tie.Need-returns-2
+returns-2 : tie.Need-returns-then-events-i
 returns-2 c =
-    let whole = c.before.before in
-    no_event _ _ whole.before.is-answer.ensures (not-false _ whole.if1.false) c.before.get-u16.ensures refl (past-last c)
+    no_event _ _ c.is_answer.ensures (not-false _ c.if-not-is_answer.false-raw) c.get_u16-events.ensures refl (past-last c)
 
-mul_at : tie.Need-overflow-mul-at
+mul_at : tie.Need-overflow_mul-at
 mul_at c = search rules
 
-add_at : tie.Need-overflow-add-at
+add_at : tie.Need-overflow_add-at
 add_at c = search rules
 
-sub-event-ok : tie.Need-overflow-sub-event-ok
+sub-event-ok : tie.Need-slice_bounds-event_ok-count
 sub-event-ok c = omega (arith, room_in c)
 
-part-event-ok-start : tie.Need-slice-bounds-event-ok-start
+part-event-ok-start : tie.Need-slice_bounds-event_ok-start
 part-event-ok-start c = omega (arith, room_in c)
 
-part-event-ok-end : tie.Need-slice-bounds-event-ok-end
+part-event-ok-end : tie.Need-slice_bounds-event_ok-end
 part-event-ok-end c = search rules
 
-event-ok-requires : tie.Need-event-ok-requires
+event-ok-requires : tie.Need-event_ok-requires
 event-ok-requires c κs =
-    let there = c.before in
-    let whole = there.before.before in
-    bytes_enough _ (start whole).args.i whole.before.is-answer.ensures (not-false _ whole.if1.false) there.before.get-u16.ensures refl (in_list there) refl
+    bytes_enough _ c.args.i c.is_answer.ensures (not-false _ c.if-not-is_answer.false-raw) c.get_u16-events.ensures refl (in_list c.before) refl
 
-returns-3 : tie.Need-returns-3
+returns-3 : tie.Need-returns
 returns-3 c =
-    let there = c.before.before in
-    let whole = there.before.before in
-    by_bytes _ _ whole.before.is-answer.ensures (not-false _ whole.if1.false) there.before.get-u16.ensures refl (in_list there) refl c.event-ok.ensures
+    by_bytes _ _ c.is_answer.ensures (not-false _ c.if-not-is_answer.false-raw) c.get_u16-events.ensures refl (in_list c.before.before) refl c.event_ok.ensures
 
-pub is-event-spec : {M : Type 1} → statement M
-is-event-spec =
+pub is_event_spec : {M : Type 1} → statement M
+is_event_spec =
     tie.close
     (tie.spec
     is-answer-requires

@@ -7,44 +7,44 @@ use Rattle.export.proofs.events.Put.{Put, put-start, put_next, put_end}
 use Rattle.export.proofs.events.put_numbers.Statement.{statement}
 use Rattle.export.proofs.events.put_numbers.Tie as tie
 
-abbrev invariant-loop : tie.invariant-loop
+abbrev invariant-loop : tie.invariant-loop-k
 invariant-loop fields₀ numbers k₀ fields k = Put k numbers fields₀ fields
 
-abbrev decreases-loop : tie.decreases-loop
+abbrev decreases-loop : tie.decreases-loop-k
 decreases-loop fields₀ numbers k₀ fields k = FIELDS - k
 
-loop-holds : tie.Need-loop-init invariant-loop decreases-loop
+loop-holds : tie.Need-loop-k-init invariant-loop decreases-loop
 loop-holds c = put-start c.args.t2 c.args.fields.now (search rules)
 
-mul-fields : tie.Need-overflow-mul-fields invariant-loop decreases-loop
+mul-fields : tie.Need-offset_bounds-numbers-k invariant-loop decreases-loop
 mul-fields c = search rules
 
-array-read-fields : tie.Need-array-read-fields invariant-loop decreases-loop
+array-read-fields : tie.Need-bounds-numbers-k invariant-loop decreases-loop
 array-read-fields c = search rules
 
-mul-fields-2 : tie.Need-overflow-mul-fields-2 invariant-loop decreases-loop
+mul-fields-2 : tie.Need-offset_bounds-fields-k invariant-loop decreases-loop
 mul-fields-2 c = search rules
 
-slice-write-fields : tie.Need-slice-write-fields invariant-loop decreases-loop
+slice-write-fields : tie.Need-bounds-fields-k invariant-loop decreases-loop
 slice-write-fields c = search rules
 
-add-k : tie.Need-overflow-add-k invariant-loop decreases-loop
+add-k : tie.Need-overflow_add-k invariant-loop decreases-loop
 add-k c = search rules
 
-loop-less : tie.Need-loop-smaller invariant-loop decreases-loop
+loop-less : tie.Need-loop-k-smaller invariant-loop decreases-loop
 loop-less c = search rules
 
-loop-again : tie.Need-loop-preserved invariant-loop decreases-loop
-loop-again c = put_next _ _ _ _ c.loop-test.true c.before.loop.invariant
+loop-again : tie.Need-loop-k-preserved invariant-loop decreases-loop
+loop-again c = put_next _ _ _ _ c.loop-k-test.true c.loop-k.invariant
 
-same_length : tie.Need-same-length invariant-loop decreases-loop
+same_length : tie.Need-shape_of-fields invariant-loop decreases-loop
 same_length c = search rules
 
 returns : tie.Need-returns invariant-loop decreases-loop
-returns c = put_end _ _ _ _ c.before.before.requires c.loop-test.false c.before.loop.invariant
+returns c = put_end _ _ _ _ c.requires c.loop-k-test.false c.loop-k.invariant
 
-pub put-numbers-spec : {M : Type 1} → statement M
-put-numbers-spec =
+pub put_numbers_spec : {M : Type 1} → statement M
+put_numbers_spec =
     tie.close
     (tie.spec
     invariant-loop

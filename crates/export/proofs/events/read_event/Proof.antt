@@ -12,71 +12,67 @@ use Rattle.export.proofs.events.read_event.Statement.{statement}
 use Rattle.export.proofs.events.read_event.Tie as tie
 
 -- from the test for the event back to that of the length, and from that to the start
-abbrev sized : tie.Else2 → tie.Else1
+abbrev sized : tie.Else-not-is_event → tie.Else-fields-ne-FIELDS
 sized c = c.before.before
 
-abbrev start : tie.Else1 → tie.Start
+abbrev start : tie.Else-fields-ne-FIELDS → tie.Start
 start c = c.before.before.before
 
 -- what the test of the length says on each side
-other-number : (c : tie.Then1) → length c.before.before.before.args.fields.now ≡ FIELDS → ⊥
-other-number c = c.if1.true
+other-number : (c : tie.Then-fields-ne-FIELDS) → length c.args.fields.now ≡ FIELDS → ⊥
+other-number c = c.if-fields-ne-FIELDS.true
 
-all-fields : (c : tie.Else1) → length (start c).args.fields.now ≡ FIELDS
-all-fields c = c.if1.false
+all-fields : (c : tie.Else-fields-ne-FIELDS) → length c.args.fields.now ≡ FIELDS
+all-fields c = c.if-fields-ne-FIELDS.false
 
 -- the event is within the area
-event-in : (c : tie.Else2) → let a = (start (sized c)).args in Within a.answers.now a.i
+event-in : (c : tie.Else-not-is_event) → let a = c.args in Within a.answers.now a.i
 event-in c =
-    let a = (start (sized c)).args in
-    within a.answers.now a.i c.before.is-event.ensures (not-false _ c.if2.false)
+    let a = c.args in
+    within a.answers.now a.i c.is_event.ensures (not-false _ c.if-not-is_event.false-raw)
 
-returns : tie.Need-returns
+returns : tie.Need-returns-then-fields-ne-FIELDS
 returns c = no_fields _ (other-number c) _
 
-is-event-requires : tie.Need-is-event-requires
+is-event-requires : tie.Need-is_event-requires
 is-event-requires c κs = search rules
 
-returns-2 : tie.Need-returns-2
-returns-2 c = no_event-fields _ _ _ c.before.is-event.ensures (not-true _ c.if2.true)
+returns-2 : tie.Need-returns-then-not-is_event
+returns-2 c = no_event-fields _ _ _ c.is_event.ensures (not-true _ c.if-not-is_event.true-raw)
 
-mul-start : tie.Need-overflow-mul-start
+mul-start : tie.Need-overflow_mul-start
 mul-start c = search rules
 
-add_start : tie.Need-overflow-add-start
+add_start : tie.Need-overflow_add-start
 add_start c = search rules
 
-sub-numbers-at : tie.Need-overflow-sub-numbers-at
+sub-numbers-at : tie.Need-slice_bounds-numbers_at-count
 sub-numbers-at c = omega (arith, (event-in c).room)
 
-part-numbers-at-start : tie.Need-slice-bounds-numbers-at-start
+part-numbers-at-start : tie.Need-slice_bounds-numbers_at-start
 part-numbers-at-start c = omega (arith, (event-in c).room)
 
-part-numbers-at-end : tie.Need-slice-bounds-numbers-at-end
+part-numbers-at-end : tie.Need-slice_bounds-numbers_at-end
 part-numbers-at-end c = search rules
 
-numbers-at-requires : tie.Need-numbers-at-requires
+numbers-at-requires : tie.Need-numbers_at-numbers-requires
 numbers-at-requires c κs =
-    let there = c.before in
-    let a = (start (sized there)).args in
-    event-bytes _ a.i a.fields.now there.before.is-event.ensures (not-false _ there.if2.false) refl
+    let a = c.args in
+    event-bytes _ a.i a.fields.now c.is_event.ensures (not-false _ c.if-not-is_event.false-raw) refl
 
-put-numbers-requires : tie.Need-put-numbers-requires
-put-numbers-requires c κs = let there = c.before.before.before in all-fields (sized there)
+put-numbers-requires : tie.Need-put_numbers-requires
+put-numbers-requires c κs = all-fields c.before.before.before.before.before
 
-same_length : tie.Need-same-length
+same_length : tie.Need-shape_of-fields
 same_length c = search rules
 
-returns-3 : tie.Need-returns-3
+returns-3 : tie.Need-returns
 returns-3 c =
-    let put = c.before.before in
-    let read = put.before.before in
-    let there = read.before.before in
-    event-fields _ _ _ there.before.is-event.ensures (not-false _ there.if2.false) refl (all-fields (sized there))
-    read.numbers-at.ensures put.put-numbers.ensures
+    event-fields _ _ _ c.is_event.ensures (not-false _ c.if-not-is_event.false-raw) refl (all-fields c.before.before.before.before.before.before.before.before)
+    c.numbers_at-numbers.ensures c.put_numbers.ensures
 
-pub read-event-spec : {M : Type 1} → statement M
-read-event-spec =
+pub read_event_spec : {M : Type 1} → statement M
+read_event_spec =
     tie.close
     (tie.spec
     returns

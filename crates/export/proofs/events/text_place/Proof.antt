@@ -7,21 +7,25 @@ use Rattle.export.specs.Events.{text_place}
 use Rattle.export.proofs.events.text_place.Statement.{statement}
 use Rattle.export.proofs.events.text_place.Tie as tie
 
-returns : tie.Need-returns
+returns : tie.Need-returns-in-0
 unfolding text_place assoc
-returns c = arm text_place c.match.keys1
+returns c = arm text_place c.in-0.is
 
-returns-2 : tie.Need-returns-2
+returns-2 : tie.Need-returns-in-1
 unfolding text_place assoc
-returns-2 c = arm text_place c.match.keys2
+returns-2 c = arm text_place c.in-1.is
 
-returns-3 : tie.Need-returns-3
+returns-3 : tie.Need-returns-in-2
 unfolding text_place assoc
-returns-3 c = arm text_place c.match.keys3
+returns-3 c = arm text_place c.in-2.is
 
-returns-4 : tie.Need-returns-4
+returns-4 : tie.Need-returns-in_default
 unfolding text_place
-returns-4 c = missed first_three _ _ _ c.match.rest tt
+returns-4 c = missed first_three _ _ _ c.in_default.in_default-own.rest tt
 
-pub text-place-spec : {M : Type 1} → statement M
-text-place-spec = tie.close (tie.spec returns returns-2 returns-3 returns-4)
+pub text_place_spec : {M : Type 1} → statement M
+text_place_spec = tie.close (tie.spec
+    returns
+    returns-2
+    returns-3
+    returns-4)

@@ -8,23 +8,28 @@ use Rattle.export.specs.Numbers.{refusal_of}
 use Rattle.export.proofs.numbers.finish_number.Statement.{statement}
 use Rattle.export.proofs.numbers.finish_number.Tie as tie
 
-enum-known-a : tie.Need-enum-known-a
+enum-known-a : tie.Need-enum_known-a
 enum-known-a c = search rules
 
-refusal-number-requires : tie.Need-refusal-number-requires
+refusal-number-requires : tie.Need-refusal_number-requires
 refusal-number-requires c κs = search rules
 
-enum_told : tie.Need-enum-told
+enum_told : tie.Need-enum_told-1
 enum_told c = search rules
 
-returns : tie.Need-returns
+returns : tie.Need-returns-in-Refused
 unfolding refusal_of finish_said
-returns c = c.refusal-number.ensures ∙ arm (λ a. refusal_of (finish_said a)) c.before.before.a.given.1
+returns c = c.refusal_number.ensures ∙ arm (λ a. refusal_of (finish_said a)) c.in-Refused.is
 
-returns-2 : tie.Need-returns-2
+returns-2 : tie.Need-returns-in-Finished
 unfolding refusal_of finish_said
-returns-2 c = arm (λ a. refusal_of (finish_said a)) c.enum_told.given.1
+returns-2 c = arm (λ a. refusal_of (finish_said a)) c.in-Finished.is
 
-pub finish-number-spec : {M : Type 1} → statement M
-finish-number-spec =
-    tie.close (tie.spec enum-known-a refusal-number-requires enum_told returns returns-2)
+pub finish_number_spec : {M : Type 1} → statement M
+finish_number_spec =
+    tie.close (tie.spec
+    enum-known-a
+    refusal-number-requires
+    enum_told
+    returns
+    returns-2)

@@ -10,34 +10,34 @@ use Rattle.keys.specs.CodeKey.{code_key}
 use Rattle.keys.proofs.key_code.code_key.Statement.{statement}
 use Rattle.keys.proofs.key_code.code_key.Tie as tie
 
-code-native-requires : tie.Need-code-native-requires
+code-native-requires : tie.Need-code_native-requires
 code-native-requires c κs = tt
 
-native-fields-requires : tie.Need-native-fields-requires
+native-fields-requires : tie.Need-native_fields-held-requires
 native-fields-requires c κs = tt
 
-cast-value : tie.Need-overflow-cast-value
+cast-value : tie.Need-overflow_cast-value
 cast-value c = search rules
 
-cast-kind : tie.Need-overflow-cast-kind
+cast-kind : tie.Need-overflow_cast-kind
 cast-kind c = search rules
 
-code-number-requires : tie.Need-code-number-requires
+code-number-requires : tie.Need-code_number-place-requires
 code-number-requires c κs = tt
 
-cast-place : tie.Need-overflow-cast-place
+cast-place : tie.Need-overflow_cast-place
 cast-place c = search rules
 
-mul-result : tie.Need-overflow-mul-result
+mul-result : tie.Need-overflow_mul-result
 mul-result c = search rules
 
-add-result : tie.Need-overflow-add-result
+add-result : tie.Need-overflow_add-result
 add-result c = search rules
 
-mul-result-2 : tie.Need-overflow-mul-result-2
+mul-result-2 : tie.Need-overflow_mul-result-2
 mul-result-2 c = search rules
 
-add-result-2 : tie.Need-overflow-add-result-2
+add-result-2 : tie.Need-overflow_add-result-2
 add-result-2 c = search rules
 
 -- code_key stays shut below, so that a wrong sum is refused without computing it
@@ -49,12 +49,12 @@ joined c {v} {k} {n} p q r = rw (p, q, r)
 
 returns : tie.Need-returns
 returns c =
-    let e = c.before.before.before.before.code-native.ensures in
-    let f = c.before.before.before.native-fields.ensures in
-    joined _ (f.1 ∙ ap native_value e) (f.0 ∙ ap native_kind e) c.code-number.ensures
+    let e = c.code_native.ensures in
+    let f = c.native_fields-held.ensures in
+    joined _ (f.1 ∙ ap native_value e) (f.0 ∙ ap native_kind e) c.code_number-place.ensures
 
-pub code-key-spec : {M : Type 1} → statement M
-code-key-spec =
+pub code_key_spec : {M : Type 1} → statement M
+code_key_spec =
     tie.close
     (tie.spec
     code-native-requires

@@ -7,33 +7,33 @@ use Rattle.keys.specs.CodeKey.{code_key_ok}
 use Rattle.keys.proofs.key_code.code_key_ok.Statement.{statement}
 use Rattle.keys.proofs.key_code.code_key_ok.Tie as tie
 
-cast-kind : tie.Need-overflow-cast-kind
+cast-kind : tie.Need-overflow_cast-kind
 cast-kind c = search rules
 
-cast-value : tie.Need-overflow-cast-value
+cast-value : tie.Need-overflow_cast-value
 cast-value c = search rules
 
-returns : tie.Need-returns
+returns : tie.Need-returns-then-place-ge-CODE_CASES
 unfolding code_key_ok
-returns c = simp (le-ltb _ _ c.if1.true)
+returns c = simp (le-ltb _ _ c.if-place-ge-CODE_CASES.true)
 
-native-ok-requires : tie.Need-native-ok-requires
+native-ok-requires : tie.Need-native_ok-requires
 native-ok-requires c κs = search rules
 
-returns-2 : tie.Need-returns-2
+returns-2 : tie.Need-returns-then-place-eq0
 unfolding code_key_ok
-returns-2 c = rw c.native-ok.ensures (simp (lt-ltb _ _ c.before.before.if1.false, eq-eqb _ _ c.before.if2.true))
+returns-2 c = rw c.native_ok.ensures (simp (lt-ltb _ _ c.if-place-ge-CODE_CASES.false, eq-eqb _ _ c.if-place-eq0.true))
 
-returns-3 : tie.Need-returns-3
+returns-3 : tie.Need-returns-then-kind-eq0
 unfolding code_key_ok none_held
-returns-3 c = simp (lt-ltb _ _ c.before.before.if1.false, ne_eqb _ _ c.before.if2.false, eq-eqb _ _ c.if3.true)
+returns-3 c = simp (lt-ltb _ _ c.if-place-ge-CODE_CASES.false, ne_eqb _ _ c.if-place-eq0.false, eq-eqb _ _ c.if-kind-eq0.true)
 
-returns-4 : tie.Need-returns-4
+returns-4 : tie.Need-returns-else-kind-eq0
 unfolding code_key_ok none_held
-returns-4 c = simp (lt-ltb _ _ c.before.before.if1.false, ne_eqb _ _ c.before.if2.false, ne_eqb _ _ c.if3.false)
+returns-4 c = simp (lt-ltb _ _ c.if-place-ge-CODE_CASES.false, ne_eqb _ _ c.if-place-eq0.false, ne_eqb _ _ c.if-kind-eq0.false)
 
-pub code-key-ok-spec : {M : Type 1} → statement M
-code-key-ok-spec =
+pub code_key_ok_spec : {M : Type 1} → statement M
+code_key_ok_spec =
     tie.close
     (tie.spec
     cast-kind

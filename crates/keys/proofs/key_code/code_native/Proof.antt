@@ -23,18 +23,21 @@ at_least zero i x o = absurd o
 at_least (suc zero) i x o = omega arith
 at_least (suc (suc m)) i x o = elim o [ inl e ↦ omega arith | inr r ↦ let h = at_least (suc m) (suc i) x r in omega arith ]
 
-enum-known-c : tie.Need-enum-known-c
+enum-known-c : tie.Need-enum_known-c
 enum-known-c c = search rules
 
-returns : tie.Need-returns
+returns : tie.Need-returns-in-Unidentified
 unfolding code_native
-returns c = sym (ap code_native c.before.c.given.1)
+returns c = sym (ap code_native c.in-Unidentified.is)
 
-returns-2 : tie.Need-returns-2
+returns-2 : tie.Need-returns-in_default
 returns-2 c =
-    let h = at_least (code_cases - 1) 1 _ c.match.keys2 in
-    let t = number_is_tag c.before.args.c in
-    sym (native_plain c.before.args.c (omega arith))
+    let h = at_least (code_cases - 1) 1 _ c.MATCH.keys2 in
+    let t = number_is_tag c.args.c in
+    sym (native_plain c.args.c (omega arith))
 
-pub code-native-spec : {M : Type 1} → statement M
-code-native-spec = tie.close (tie.spec enum-known-c returns returns-2)
+pub code_native_spec : {M : Type 1} → statement M
+code_native_spec = tie.close (tie.spec
+    enum-known-c
+    returns
+    returns-2)

@@ -8,14 +8,16 @@ use Rattle.keys.proofs.Arms.{arm}
 use Rattle.keys.proofs.key_number.dead_at.Statement.{statement}
 use Rattle.keys.proofs.key_number.dead_at.Tie as tie
 
-returns : tie.Need-returns
+returns : tie.Need-returns-in-0
 unfolding dead_at assoc
-returns c = arm (λ n. dead_at n c.before.args.value) c.match.keys1
+returns c = arm (λ n. dead_at n c.args.value) c.in-0.is
 
-returns-2 : tie.Need-returns-2
+returns-2 : tie.Need-returns-in_default
 unfolding dead_at
-returns-2 c = missed ((0 ∷ []) ∷ []) _ _ _ c.match.rest tt
+returns-2 c = missed ((0 ∷ []) ∷ []) _ _ _ c.in_default.in_default-own.rest tt
 
-pub dead-at-spec : {M : Type 1} → statement M
-dead-at-spec =
-    tie.close (tie.spec returns returns-2)
+pub dead_at_spec : {M : Type 1} → statement M
+dead_at_spec =
+    tie.close (tie.spec
+    returns
+    returns-2)

@@ -9,23 +9,27 @@ use Rattle.keys.proofs.Arms.{arm}
 use Rattle.keys.proofs.key_number.dead_ok.Statement.{statement}
 use Rattle.keys.proofs.key_number.dead_ok.Tie as tie
 
-is-scalar-requires : tie.Need-is-scalar-requires
+is-scalar-requires : tie.Need-is_scalar-requires
 is-scalar-requires c κs = tt
 
-returns : tie.Need-returns
+returns : tie.Need-returns-in-0
 unfolding dead_ok assoc
-returns c = arm (λ n. dead_ok n c.before.args.value) c.match.keys1
+returns c = arm (λ n. dead_ok n c.args.value) c.in-0.is
 
-returns-2 : tie.Need-returns-2
+returns-2 : tie.Need-returns-in-1
 unfolding dead_ok assoc
 returns-2 c =
-    c.is-scalar.ensures
-    ∙ arm (λ n. dead_ok n c.before.before.args.value) c.before.match.keys2
+    c.is_scalar.ensures
+    ∙ arm (λ n. dead_ok n c.args.value) c.in-1.is
 
-returns-3 : tie.Need-returns-3
+returns-3 : tie.Need-returns-in_default
 unfolding dead_ok
-returns-3 c = missed ((1 ∷ []) ∷ (0 ∷ []) ∷ []) _ _ _ c.match.rest tt
+returns-3 c = missed ((1 ∷ []) ∷ (0 ∷ []) ∷ []) _ _ _ c.in_default.in_default-own.rest tt
 
-pub dead-ok-spec : {M : Type 1} → statement M
-dead-ok-spec =
-    tie.close (tie.spec is-scalar-requires returns returns-2 returns-3)
+pub dead_ok_spec : {M : Type 1} → statement M
+dead_ok_spec =
+    tie.close (tie.spec
+    is-scalar-requires
+    returns
+    returns-2
+    returns-3)

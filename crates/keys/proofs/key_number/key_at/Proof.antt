@@ -9,32 +9,38 @@ use Rattle.keys.proofs.Arms.{arm, first_three}
 use Rattle.keys.proofs.key_number.key_at.Statement.{statement}
 use Rattle.keys.proofs.key_number.key_at.Tie as tie
 
-native-at-requires : tie.Need-native-at-requires
+native-at-requires : tie.Need-native_at-requires
 native-at-requires c κs = tt
 
-dead-at-requires : tie.Need-dead-at-requires
+dead-at-requires : tie.Need-dead_at-requires
 dead-at-requires c κs = tt
 
-returns : tie.Need-returns
+returns : tie.Need-returns-in-0
 unfolding key_at assoc
-returns c = arm (λ n. key_at n c.before.args.aux c.before.args.value) c.match.keys1
+returns c = arm (λ n. key_at n c.args.aux c.args.value) c.in-0.is
 
-returns-2 : tie.Need-returns-2
+returns-2 : tie.Need-returns-in-1
 unfolding key_at assoc
 returns-2 c =
-    ap Unidentified c.native-at.ensures
-    ∙ arm (λ n. key_at n c.before.before.args.aux c.before.before.args.value) c.before.match.keys2
+    ap Unidentified c.native_at.ensures
+    ∙ arm (λ n. key_at n c.args.aux c.args.value) c.in-1.is
 
-returns-3 : tie.Need-returns-3
+returns-3 : tie.Need-returns-in-2
 unfolding key_at assoc
 returns-3 c =
-    c.dead-at.ensures
-    ∙ arm (λ n. key_at n c.before.before.args.aux c.before.before.args.value) c.before.match.keys3
+    c.dead_at.ensures
+    ∙ arm (λ n. key_at n c.args.aux c.args.value) c.in-2.is
 
-returns-4 : tie.Need-returns-4
+returns-4 : tie.Need-returns-in_default
 unfolding key_at
-returns-4 c = missed first_three _ _ _ c.match.rest tt
+returns-4 c = missed first_three _ _ _ c.in_default.in_default-own.rest tt
 
-pub key-at-spec : {M : Type 1} → statement M
-key-at-spec =
-    tie.close (tie.spec native-at-requires dead-at-requires returns returns-2 returns-3 returns-4)
+pub key_at_spec : {M : Type 1} → statement M
+key_at_spec =
+    tie.close (tie.spec
+    native-at-requires
+    dead-at-requires
+    returns
+    returns-2
+    returns-3
+    returns-4)

@@ -10,48 +10,48 @@ use Rattle.keys.proofs.key_number.key_fields.Tie as tie
 told : {x k : Key} → x ≡ k → (key_number k ≡ key_number x) × (key_aux k ≡ key_aux x) × (key_value k ≡ key_value x)
 told h = (arm key_number h, arm key_aux h, arm key_value h)
 
-enum-known-k : tie.Need-enum-known-k
-enum-known-k c = c.match.keys1
+enum-known-k : tie.Need-enum_known-k
+enum-known-k c = c.in-Named-1.keys1
 
-enum_told : tie.Need-enum-told
-enum_told c = c.match.keys2
+enum_told : tie.Need-enum_told-1
+enum_told c = c.in-Character-1.keys2
 
-enum-known-k-2 : tie.Need-enum-known-k-2
-enum-known-k-2 c = c.match.keys3
+enum-known-k-2 : tie.Need-enum_known-k-in-Unidentified-1
+enum-known-k-2 c = c.in-Unidentified-1.keys3
 
-native-fields-requires : tie.Need-native-fields-requires
+native-fields-requires : tie.Need-native_fields-held-requires
 native-fields-requires c κs = tt
 
-enum-told-2 : tie.Need-enum-told-2
-enum-told-2 c = c.match.keys4
+enum-told-2 : tie.Need-enum_told-in-Dead
+enum-told-2 c = c.in-Dead-1.keys4
 
-enum-known-k-3 : tie.Need-enum-known-k-3
-enum-known-k-3 c = c.match.keys5
+enum-known-k-3 : tie.Need-enum_known-k-in-DeadChar-1
+enum-known-k-3 c = c.in-DeadChar-1.keys5
 
-returns : tie.Need-returns
+returns : tie.Need-returns-in-Named
 unfolding key_number key_aux key_value
-returns c = told c.before.k.given.1
+returns c = told c.in-Named.is
 
-returns-2 : tie.Need-returns-2
+returns-2 : tie.Need-returns-in-Character
 unfolding key_number key_aux key_value
-returns-2 c = told c.enum_told.given.1
+returns-2 c = told c.in-Character.is
 
-returns-3 : tie.Need-returns-3
+returns-3 : tie.Need-returns-in-Unidentified
 unfolding key_number key_aux key_value
 returns-3 c =
-    let h = told c.before.before.k2.given.1 in
-    (h.0, c.native-fields.ensures.0 ∙ h.1, c.native-fields.ensures.1 ∙ h.2)
+    let h = told c.in-Unidentified.is in
+    (h.0, c.native_fields-held.ensures.0 ∙ h.1, c.native_fields-held.ensures.1 ∙ h.2)
 
-returns-4 : tie.Need-returns-4
+returns-4 : tie.Need-returns-in-Dead
 unfolding key_number key_aux key_value
-returns-4 c = told c.enum-told2.given.1
+returns-4 c = told c.in-Dead.is
 
-returns-5 : tie.Need-returns-5
+returns-5 : tie.Need-returns-in-DeadChar
 unfolding key_number key_aux key_value
-returns-5 c = told c.before.k3.given.1
+returns-5 c = told c.in-DeadChar.is
 
-pub key-fields-spec : {M : Type 1} → statement M
-key-fields-spec =
+pub key_fields_spec : {M : Type 1} → statement M
+key_fields_spec =
     tie.close
     (tie.spec
     enum-known-k

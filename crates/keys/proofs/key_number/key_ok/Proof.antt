@@ -15,53 +15,53 @@ rest : (n aux v : ℕ) {b t : Bool} → Rest first_three n → t ≡ named_ok n 
 unfolding key_ok
 rest n aux v r p q = ap (λ b. pick b (none_held aux v) false) (sym q ∙ p) ∙ missed first_three n _ _ r tt
 
-none-held-requires : tie.Need-none-held-requires
+none-held-requires : tie.Need-none_held-requires
 none-held-requires c κs = tt
 
-native-ok-requires : tie.Need-native-ok-requires
+native-ok-requires : tie.Need-native_ok-requires
 native-ok-requires c κs = tt
 
-dead-ok-requires : tie.Need-dead-ok-requires
+dead-ok-requires : tie.Need-dead_ok-requires
 dead-ok-requires c κs = tt
 
-named-ok-requires : tie.Need-named-ok-requires
+named-ok-requires : tie.Need-named_ok-requires
 named-ok-requires c κs = tt
 
-none-held-requires-2 : tie.Need-none-held-requires-2
+none-held-requires-2 : tie.Need-none_held-requires-then-named_ok
 none-held-requires-2 c κs = tt
 
-returns : tie.Need-returns
+returns : tie.Need-returns-in-0
 unfolding key_ok assoc
 returns c =
-    c.none-held.ensures
-    ∙ arm (λ n. key_ok n c.before.before.args.aux c.before.before.args.value) c.before.match.keys1
+    c.none_held.ensures
+    ∙ arm (λ n. key_ok n c.args.aux c.args.value) c.in-0.is
 
-returns-2 : tie.Need-returns-2
+returns-2 : tie.Need-returns-in-1
 unfolding key_ok assoc
 returns-2 c =
-    c.native-ok.ensures
-    ∙ arm (λ n. key_ok n c.before.before.args.aux c.before.before.args.value) c.before.match.keys2
+    c.native_ok.ensures
+    ∙ arm (λ n. key_ok n c.args.aux c.args.value) c.in-1.is
 
-returns-3 : tie.Need-returns-3
+returns-3 : tie.Need-returns-in-2
 unfolding key_ok assoc
 returns-3 c =
-    c.dead-ok.ensures
-    ∙ arm (λ n. key_ok n c.before.before.args.aux c.before.before.args.value) c.before.match.keys3
+    c.dead_ok.ensures
+    ∙ arm (λ n. key_ok n c.args.aux c.args.value) c.in-2.is
 
-returns-4 : tie.Need-returns-4
+returns-4 : tie.Need-returns-then-named_ok
 returns-4 c =
-    c.none-held2.ensures
-    ∙ rest _ _ _ c.before.before.before.match.rest c.before.before.named_ok.ensures c.before.if1.true
+    c.none_held-then-named_ok.ensures
+    ∙ rest _ _ _ c.in_default.in_default-own.rest c.named_ok.ensures c.if-named_ok.true
 
-returns-5 : tie.Need-returns-5
+returns-5 : tie.Need-returns-else-named_ok
 returns-5 c =
-    rest _ c.before.before.before.args.aux c.before.before.before.args.value
-    c.before.before.match.rest
-    c.before.named_ok.ensures
-    c.if1.false
+    rest _ c.args.aux c.args.value
+    c.in_default.in_default-own.rest
+    c.named_ok.ensures
+    c.if-named_ok.false
 
-pub key-ok-spec : {M : Type 1} → statement M
-key-ok-spec =
+pub key_ok_spec : {M : Type 1} → statement M
+key_ok_spec =
     tie.close
     (tie.spec
     none-held-requires

@@ -6,24 +6,30 @@ use Rattle.keys.proofs.native_code.Signed.{as_bits, sum_fits, sum_is, sum-read}
 use Rattle.keys.proofs.native_code.bits_of.Statement.{statement}
 use Rattle.keys.proofs.native_code.bits_of.Tie as tie
 
-cast-result : tie.Need-overflow-cast-result
-cast-result c = rw (to_z-of_z c.before.ranges.z) (sfits_widen {w = w32} {w' = w64} tt c.before.ranges.z)
+cast-result : tie.Need-overflow_cast-result
+cast-result c = rw (to_z-of_z c.ranges.z) (sfits_widen {w = w32} {w' = w64} tt c.ranges.z)
 
-add-result : tie.Need-overflow-add-result
-add-result c = rw (sum_is c.before.args.z c.before.ranges.z c.if1.true) (sum_fits c.before.args.z c.before.ranges.z)
+add-result : tie.Need-overflow_add-result
+add-result c = rw (sum_is c.args.z c.ranges.z c.if-z-lt0.true) (sum_fits c.args.z c.ranges.z)
 
-cast-result-2 : tie.Need-overflow-cast-result-2
-cast-result-2 c = rw (sum-read c.before.args.z c.before.ranges.z c.if1.true) (tt, Fits-of_z c.before.ranges.z)
+cast-result-2 : tie.Need-overflow_cast-result-then-z-lt0
+cast-result-2 c = rw (sum-read c.args.z c.ranges.z c.if-z-lt0.true) (tt, Fits-of_z c.ranges.z)
 
-cast-result-3 : tie.Need-overflow-cast-result-3
-cast-result-3 c = rw (as_bits c.before.args.z c.before.ranges.z c.if1.false) (tt, Fits-of_z c.before.ranges.z)
+cast-result-3 : tie.Need-overflow_cast-result-else-z-lt0
+cast-result-3 c = rw (as_bits c.args.z c.ranges.z c.if-z-lt0.false) (tt, Fits-of_z c.ranges.z)
 
-returns : tie.Need-returns
-returns c = rw (sum-read c.before.args.z c.before.ranges.z c.if1.true)
+returns : tie.Need-returns-then-z-lt0
+returns c = rw (sum-read c.args.z c.ranges.z c.if-z-lt0.true)
 
-returns-2 : tie.Need-returns-2
-returns-2 c = rw (as_bits c.before.args.z c.before.ranges.z c.if1.false)
+returns-2 : tie.Need-returns-else-z-lt0
+returns-2 c = rw (as_bits c.args.z c.ranges.z c.if-z-lt0.false)
 
-pub bits-of-spec : {M : Type 1} → statement M
-bits-of-spec =
-    tie.close (tie.spec cast-result add-result cast-result-2 cast-result-3 returns returns-2)
+pub bits_of_spec : {M : Type 1} → statement M
+bits_of_spec =
+    tie.close (tie.spec
+    cast-result
+    add-result
+    cast-result-2
+    cast-result-3
+    returns
+    returns-2)

@@ -5,36 +5,36 @@ use Rattle.keys.proofs.Arms.{arm}
 use Rattle.keys.proofs.native_code.location_number.Statement.{statement}
 use Rattle.keys.proofs.native_code.location_number.Tie as tie
 
-enum_told : tie.Need-enum-told
-enum_told c = c.match.keys1
+enum_told : tie.Need-enum_told-1
+enum_told c = c.in-Standard-1.keys1
 
-enum-told-2 : tie.Need-enum-told-2
-enum-told-2 c = c.match.keys2
+enum-told-2 : tie.Need-enum_told-in-Left
+enum-told-2 c = c.in-Left-1.keys2
 
-enum-told-3 : tie.Need-enum-told-3
-enum-told-3 c = c.match.keys3
+enum-told-3 : tie.Need-enum_told-in-Right
+enum-told-3 c = c.in-Right-1.keys3
 
-enum-told-4 : tie.Need-enum-told-4
-enum-told-4 c = c.match.keys4
+enum-told-4 : tie.Need-enum_told-in-Numpad
+enum-told-4 c = c.in-Numpad-1.keys4
 
-returns : tie.Need-returns
+returns : tie.Need-returns-in-Standard
 unfolding location_number
-returns c = arm location_number c.enum_told.given.1
+returns c = arm location_number c.in-Standard.is
 
-returns-2 : tie.Need-returns-2
+returns-2 : tie.Need-returns-in-Left
 unfolding location_number
-returns-2 c = arm location_number c.enum-told2.given.1
+returns-2 c = arm location_number c.in-Left.is
 
-returns-3 : tie.Need-returns-3
+returns-3 : tie.Need-returns-in-Right
 unfolding location_number
-returns-3 c = arm location_number c.enum-told3.given.1
+returns-3 c = arm location_number c.in-Right.is
 
-returns-4 : tie.Need-returns-4
+returns-4 : tie.Need-returns-in-Numpad
 unfolding location_number
-returns-4 c = arm location_number c.enum-told4.given.1
+returns-4 c = arm location_number c.in-Numpad.is
 
-pub location-number-spec : {M : Type 1} → statement M
-location-number-spec =
+pub location_number_spec : {M : Type 1} → statement M
+location_number_spec =
     tie.close
     (tie.spec
     enum_told

@@ -13,58 +13,58 @@ use Rattle.keys.proofs.native_code.native_fields.Tie as tie
 told : {x k : NativeKeyCode} → x ≡ k → (native_kind k ≡ native_kind x) × (native_value k ≡ native_value x)
 told h = (arm native_kind h, arm native_value h)
 
-enum_told : tie.Need-enum-told
-enum_told c = c.match.keys1
+enum_told : tie.Need-enum_told-1
+enum_told c = c.in-Unidentified-1.keys1
 
-enum-known-c : tie.Need-enum-known-c
-enum-known-c c = c.match.keys2
+enum-known-c : tie.Need-enum_known-c
+enum-known-c c = c.in-Windows-1.keys2
 
-cast-t6 : tie.Need-overflow-cast-t6
+cast-t6 : tie.Need-overflow_cast-result
 cast-t6 c = search rules
 
-enum-known-c-2 : tie.Need-enum-known-c-2
-enum-known-c-2 c = c.match.keys3
+enum-known-c-2 : tie.Need-enum_known-c-in-MacOS-1
+enum-known-c-2 c = c.in-MacOS-1.keys3
 
-cast-t7 : tie.Need-overflow-cast-t7
+cast-t7 : tie.Need-overflow_cast-result-in-MacOS
 cast-t7 c = search rules
 
-enum-known-c-3 : tie.Need-enum-known-c-3
-enum-known-c-3 c = c.match.keys4
+enum-known-c-3 : tie.Need-enum_known-c-in-Gtk-1
+enum-known-c-3 c = c.in-Gtk-1.keys4
 
-cast-t8 : tie.Need-overflow-cast-t8
+cast-t8 : tie.Need-overflow_cast-result-in-Gtk
 cast-t8 c = search rules
 
-enum-known-c-4 : tie.Need-enum-known-c-4
-enum-known-c-4 c = c.match.keys5
+enum-known-c-4 : tie.Need-enum_known-c-in-Android-1
+enum-known-c-4 c = c.in-Android-1.keys5
 
-bits-of-requires : tie.Need-bits-of-requires
+bits-of-requires : tie.Need-bits_of-requires
 bits-of-requires c κs = tt
 
-returns : tie.Need-returns
+returns : tie.Need-returns-in-Unidentified
 unfolding native_kind native_value
-returns c = told c.enum_told.given.1
+returns c = told c.in-Unidentified.is
 
-returns-2 : tie.Need-returns-2
+returns-2 : tie.Need-returns-in-Windows
 unfolding native_kind native_value
-returns-2 c = told c.before.c.given.1
+returns-2 c = told c.in-Windows.is
 
-returns-3 : tie.Need-returns-3
+returns-3 : tie.Need-returns-in-MacOS
 unfolding native_kind native_value
-returns-3 c = told c.before.c2.given.1
+returns-3 c = told c.in-MacOS.is
 
-returns-4 : tie.Need-returns-4
+returns-4 : tie.Need-returns-in-Gtk
 unfolding native_kind native_value
-returns-4 c = told c.before.c3.given.1
+returns-4 c = told c.in-Gtk.is
 
-returns-5 : tie.Need-returns-5
+returns-5 : tie.Need-returns-in-Android
 unfolding native_kind native_value
 returns-5 c =
-    let f = Fits-of_z {w = w32} {z = c.before.before.c4.given.0.0} (record { sfits = c.before.known-told4.given.0.1 }) in
-    let h = told c.before.before.c4.given.1 in
+    let f = Fits-of_z {w = w32} {z = c.in-Android.z} (record { sfits = c.known_told-in-Android-1.given.0.1 }) in
+    let h = told c.in-Android.is in
     (h.0, c.bits_of.ensures ∙ of_z-to_z f ∙ h.1)
 
-pub native-fields-spec : {M : Type 1} → statement M
-native-fields-spec =
+pub native_fields_spec : {M : Type 1} → statement M
+native_fields_spec =
     tie.close
     (tie.spec
     enum_told

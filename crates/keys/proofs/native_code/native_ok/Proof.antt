@@ -6,22 +6,25 @@ use Rattle.keys.specs.Native.{native_ok}
 use Rattle.keys.proofs.native_code.native_ok.Statement.{statement}
 use Rattle.keys.proofs.native_code.native_ok.Tie as tie
 
-returns : tie.Need-returns
+returns : tie.Need-returns-then-kind-eq0
 unfolding native_ok
-returns c = simp (eq-eqb _ _ c.if1.true)
+returns c = simp (eq-eqb _ _ c.if-kind-eq0.true)
 
-returns-2 : tie.Need-returns-2
+returns-2 : tie.Need-returns-then-kind-lt4
 unfolding native_ok
-returns-2 c = simp (ne_eqb _ _ c.before.if1.false, lt-ltb _ _ c.if2.true)
+returns-2 c = simp (ne_eqb _ _ c.if-kind-eq0.false, lt-ltb _ _ c.if-kind-lt4.true)
 
-returns-3 : tie.Need-returns-3
+returns-3 : tie.Need-returns
 unfolding native_ok
 returns-3 c =
     simp (
-      ne_eqb _ _ c.before.if1.false,
-      le-ltb _ _ c.if2.false,
-      lt-ltb _ (2 ^ 32) c.before.before.ranges.value.fits,
+      ne_eqb _ _ c.if-kind-eq0.false,
+      le-ltb _ _ c.if-kind-lt4.false,
+      lt-ltb _ (2 ^ 32) c.ranges.value.fits,
     )
 
-pub native-ok-spec : {M : Type 1} → statement M
-native-ok-spec = tie.close (tie.spec returns returns-2 returns-3)
+pub native_ok_spec : {M : Type 1} → statement M
+native_ok_spec = tie.close (tie.spec
+    returns
+    returns-2
+    returns-3)

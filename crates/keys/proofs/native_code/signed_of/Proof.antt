@@ -6,24 +6,30 @@ use Rattle.keys.proofs.native_code.Signed.{difference_fits, difference_is, diffe
 use Rattle.keys.proofs.native_code.signed_of.Statement.{statement}
 use Rattle.keys.proofs.native_code.signed_of.Tie as tie
 
-cast-result : tie.Need-overflow-cast-result
+cast-result : tie.Need-overflow_cast-result
 cast-result c = search rules
 
-cast-result-2 : tie.Need-overflow-cast-result-2
+cast-result-2 : tie.Need-overflow_cast-result-else-v-lt2147483648
 cast-result-2 c = search rules
 
-sub-result : tie.Need-overflow-sub-result
-sub-result c = rw (difference_is c.before.args.v c.before.ranges.v c.if1.false) (difference_fits c.before.args.v c.before.ranges.v)
+sub-result : tie.Need-overflow_sub-result
+sub-result c = rw (difference_is c.args.v c.ranges.v c.if-v-lt2147483648.false) (difference_fits c.args.v c.ranges.v)
 
-cast-result-3 : tie.Need-overflow-cast-result-3
-cast-result-3 c = rw (difference_read c.before.args.v c.before.ranges.v c.if1.false) (sfits_to_z c.before.ranges.v)
+cast-result-3 : tie.Need-overflow_cast-result-else-v-lt2147483648-2
+cast-result-3 c = rw (difference_read c.args.v c.ranges.v c.if-v-lt2147483648.false) (sfits_to_z c.ranges.v)
 
-returns : tie.Need-returns
+returns : tie.Need-returns-then-v-lt2147483648
 returns c = search rules
 
-returns-2 : tie.Need-returns-2
-returns-2 c = rw (difference_read c.before.args.v c.before.ranges.v c.if1.false) (to_z-of_z (sfits_to_z c.before.ranges.v))
+returns-2 : tie.Need-returns-else-v-lt2147483648
+returns-2 c = rw (difference_read c.args.v c.ranges.v c.if-v-lt2147483648.false) (to_z-of_z (sfits_to_z c.ranges.v))
 
-pub signed-of-spec : {M : Type 1} → statement M
-signed-of-spec =
-    tie.close (tie.spec cast-result cast-result-2 sub-result cast-result-3 returns returns-2)
+pub signed_of_spec : {M : Type 1} → statement M
+signed_of_spec =
+    tie.close (tie.spec
+    cast-result
+    cast-result-2
+    sub-result
+    cast-result-3
+    returns
+    returns-2)

@@ -5,17 +5,20 @@ use Rattle.lookup.specs.Maps.{len_ok}
 use Rattle.lookup.proofs.block.len_ok.Statement.{statement}
 use Rattle.lookup.proofs.block.len_ok.Tie as tie
 
-returns : tie.Need-returns
+returns : tie.Need-returns-then-number-ne0
 unfolding len_ok
-returns c = rw (ne_eqb _ _ c.if1.true)
+returns c = rw (ne_eqb _ _ c.if-number-ne0.true)
 
-returns-2 : tie.Need-returns-2
+returns-2 : tie.Need-returns-then-len-eq0
 unfolding len_ok
-returns-2 c = rw (eq-eqb _ _ c.before.if1.false, eq-eqb _ _ c.if2.true)
+returns-2 c = rw (eq-eqb _ _ c.if-number-ne0.false, eq-eqb _ _ c.if-len-eq0.true)
 
-returns-3 : tie.Need-returns-3
+returns-3 : tie.Need-returns
 unfolding len_ok
-returns-3 c = rw (eq-eqb _ _ c.before.if1.false, ne_eqb _ _ c.if2.false)
+returns-3 c = rw (eq-eqb _ _ c.if-number-ne0.false, ne_eqb _ _ c.if-len-eq0.false)
 
-pub len-ok-spec : {M : Type 1} → statement M
-len-ok-spec = tie.close (tie.spec returns returns-2 returns-3)
+pub len_ok_spec : {M : Type 1} → statement M
+len_ok_spec = tie.close (tie.spec
+    returns
+    returns-2
+    returns-3)

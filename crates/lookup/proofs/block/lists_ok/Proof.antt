@@ -12,107 +12,100 @@ use Rattle.lookup.proofs.block.Lists.{ListRead, one_ended, one_bad, one_size, on
 use Rattle.lookup.proofs.block.lists_ok.Statement.{statement}
 use Rattle.lookup.proofs.block.lists_ok.Tie as tie
 
-abbrev invariant-loop : tie.invariant-loop
+abbrev invariant-loop : tie.invariant-loop-j
 invariant-loop block j₀ at₀ j at =
     (at ≤ length block) × (HEAD ≤ at) × (j ≤ LISTS) × (at ≡ start_of block j)
     × (every (one_ok block) LISTS 0 ≡ every (one_ok block) (LISTS - j) j)
 
-abbrev decreases-loop : tie.decreases-loop
+abbrev decreases-loop : tie.decreases-loop-j
 decreases-loop block j₀ at₀ j at = LISTS - j
 
 -- ---- from where a list ends back to the loop
 
-abbrev turn : tie.After-list-end invariant-loop decreases-loop → tie.In-loop invariant-loop decreases-loop
+abbrev turn : tie.After-list_end-e invariant-loop decreases-loop → tie.In-loop-j invariant-loop decreases-loop
 turn c = c.before.before.before
 
 -- the list as it was read
 read-in :
-    (c : tie.After-list-end invariant-loop decreases-loop) →
-    let t = (turn c).before in
-    ListRead t.before.before.args.block.now t.loop.j t.loop.at c.before.before.get-u16.result c.before.get-u162.result c.list-end.result
+    (c : tie.After-list_end-e invariant-loop decreases-loop) →
+    ListRead c.args.block.now c.loop-j.j c.loop-j.at c.get_u16-n.result c.get_u16-size.result c.list_end-e.result
 read-in c =
-    let t = (turn c).before in
     record {
-      within = t.loop.inv.0;
-      behind = omega (arith, t.loop.inv.1);
-      place = t.loop.inv.3;
-      count = c.before.before.get-u16.ensures;
-      bytes = c.before.get-u162.ensures;
-      last = c.list-end.ensures;
+      within = c.loop-j.invariant.0;
+      behind = omega (arith, c.loop-j.invariant.1);
+      place = c.loop-j.invariant.3;
+      count = c.get_u16-n.ensures;
+      bytes = c.get_u16-size.ensures;
+      last = c.list_end-e.ensures;
     }
 
 -- ---- the needs
 
-loop-holds : tie.Need-loop-init invariant-loop decreases-loop
+loop-holds : tie.Need-loop-j-init invariant-loop decreases-loop
 unfolding start_of
 loop-holds c = (omega arith, omega arith, omega arith, refl, refl)
 
-mul-get-u16 : tie.Need-overflow-mul-get-u16 invariant-loop decreases-loop
+mul-get-u16 : tie.Need-overflow_mul-j invariant-loop decreases-loop
 mul-get-u16 c = omega arith
 
-add-get-u16 : tie.Need-overflow-add-get-u16 invariant-loop decreases-loop
+add-get-u16 : tie.Need-overflow_add-j invariant-loop decreases-loop
 add-get-u16 c = omega arith
 
-get-u16-requires : tie.Need-get-u16-requires invariant-loop decreases-loop
+get-u16-requires : tie.Need-get_u16-n-requires invariant-loop decreases-loop
 get-u16-requires c κs = omega arith
 
-mul-get-u16-2 : tie.Need-overflow-mul-get-u16-2 invariant-loop decreases-loop
+mul-get-u16-2 : tie.Need-overflow_mul-j-in-loop-j invariant-loop decreases-loop
 mul-get-u16-2 c = omega arith
 
-add-get-u16-2 : tie.Need-overflow-add-get-u16-2 invariant-loop decreases-loop
+add-get-u16-2 : tie.Need-overflow_add-j-in-loop-j invariant-loop decreases-loop
 add-get-u16-2 c = omega arith
 
-get-u16-requires-2 : tie.Need-get-u16-requires-2 invariant-loop decreases-loop
+get-u16-requires-2 : tie.Need-get_u16-size-requires invariant-loop decreases-loop
 get-u16-requires-2 c κs = omega arith
 
-cast-size : tie.Need-overflow-cast-size invariant-loop decreases-loop
+cast-size : tie.Need-overflow_cast-size invariant-loop decreases-loop
 cast-size c = omega arith
 
-list-end-requires : tie.Need-list-end-requires invariant-loop decreases-loop
+list-end-requires : tie.Need-list_end-e-requires invariant-loop decreases-loop
 list-end-requires c κs = omega arith
 
-returns : tie.Need-returns invariant-loop decreases-loop
+returns : tie.Need-returns-then-e-eq0 invariant-loop decreases-loop
 returns c =
-    let t = turn c.before in
-    lists_stop _ _ t.before.loop.inv.4 (every_stop _ _ _ t.loop-test.taken (one_bad _ _ _ _ _ _ (read-in c.before) c.if1.true))
+    lists_stop _ _ c.loop-j.invariant.4 (every_stop _ _ _ c.loop-j-test.true (one_bad _ _ _ _ _ _ (read-in c.before) c.if-e-eq0.true))
 
-sub-if2 : tie.Need-overflow-sub-if2 invariant-loop decreases-loop
-sub-if2 c = let d = (one_ended _ _ _ _ _ _ (read-in c.before) c.if1.false).place in omega arith
+sub-if2 : tie.Need-overflow_sub-e invariant-loop decreases-loop
+sub-if2 c = let d = (one_ended _ _ _ _ _ _ (read-in c.before) c.if-e-eq0.false).place in omega arith
 
-returns-2 : tie.Need-returns-2 invariant-loop decreases-loop
+returns-2 : tie.Need-returns-then-e-at invariant-loop decreases-loop
 returns-2 c =
-    let e = c.before.before in
-    let t = turn e in
-    lists_stop _ _ t.before.loop.inv.4
-    (every_stop _ _ _ t.loop-test.taken (one_size _ _ _ _ _ _ (read-in e) c.before.if1.false c.if2.true))
+    lists_stop _ _ c.loop-j.invariant.4
+    (every_stop _ _ _ c.loop-j-test.true (one_size _ _ _ _ _ _ (read-in c.before.before) c.if-e-eq0.false c.if-e-at.true))
 
-add-j : tie.Need-overflow-add-j invariant-loop decreases-loop
+add-j : tie.Need-overflow_add-j-in-loop-j-2 invariant-loop decreases-loop
 add-j c = omega arith
 
-loop-less : tie.Need-loop-smaller invariant-loop decreases-loop
+loop-less : tie.Need-loop-j-smaller invariant-loop decreases-loop
 loop-less c = omega arith
 
-loop-again : tie.Need-loop-preserved invariant-loop decreases-loop
+loop-again : tie.Need-loop-j-preserved invariant-loop decreases-loop
 loop-again c =
-    let e = c.before.before in
-    let t = turn e in
-    let r = read-in e in
-    let nz = c.before.if1.false in
+    let r = read-in c.before.before in
+    let nz = c.if-e-eq0.false in
     let d = one_ended _ _ _ _ _ _ r nz in
     let v = d.place in (
       d.room,
       omega arith,
       omega arith,
-      start-next _ _ _ _ _ _ r nz c.if2.false,
-      t.before.loop.inv.4 ∙ every-next _ _ _ t.loop-test.taken (one_ok_lem _ _ _ _ _ _ r nz c.if2.false),
+      start-next _ _ _ _ _ _ r nz c.if-e-at.false,
+      c.loop-j.invariant.4 ∙ every-next _ _ _ c.loop-j-test.true (one_ok_lem _ _ _ _ _ _ r nz c.if-e-at.false),
     )
 
-returns-3 : tie.Need-returns-3 invariant-loop decreases-loop
+returns-3 : tie.Need-returns invariant-loop decreases-loop
 returns-3 c =
-    let v = c.before.loop.invariant in lists_end _ _ _ c.loop-test.false v.2 v.3 v.4
+    let v = c.loop-j.invariant in lists_end _ _ _ c.loop-j-test.false v.2 v.3 v.4
 
-pub lists-ok-spec : {M : Type 1} → statement M
-lists-ok-spec =
+pub lists_ok_spec : {M : Type 1} → statement M
+lists_ok_spec =
     tie.close
     (tie.spec
     invariant-loop

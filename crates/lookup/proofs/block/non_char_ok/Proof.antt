@@ -5,14 +5,17 @@ use borrow.Author.Rules.{rules}
 use Rattle.lookup.proofs.block.non_char_ok.Statement.{statement}
 use Rattle.lookup.proofs.block.non_char_ok.Tie as tie
 
-returns : tie.Need-returns
-returns c = rw (eq-eqb _ _ c.if1.true)
+returns : tie.Need-returns-then-n-eq0
+returns c = rw (eq-eqb _ _ c.if-n-eq0.true)
 
-named-ok-requires : tie.Need-named-ok-requires
+named-ok-requires : tie.Need-named_ok-requires
 named-ok-requires c κs = search rules
 
-returns-2 : tie.Need-returns-2
-returns-2 c = rw (ne_eqb _ _ c.before.if1.false) c.named_ok.ensures
+returns-2 : tie.Need-returns
+returns-2 c = rw (ne_eqb _ _ c.if-n-eq0.false) c.named_ok.ensures
 
-pub non-char-ok-spec : {M : Type 1} → statement M
-non-char-ok-spec = tie.close (tie.spec returns named-ok-requires returns-2)
+pub non_char_ok_spec : {M : Type 1} → statement M
+non_char_ok_spec = tie.close (tie.spec
+    returns
+    named-ok-requires
+    returns-2)

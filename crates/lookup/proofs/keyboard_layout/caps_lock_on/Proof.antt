@@ -5,12 +5,14 @@ use borrow.Author.Rules.{rules}
 use Rattle.lookup.proofs.keyboard_layout.caps_lock_on.Statement.{statement}
 use Rattle.lookup.proofs.keyboard_layout.caps_lock_on.Tie as tie
 
-is-toggled-requires : tie.Need-is-toggled-requires
+is-toggled-requires : tie.Need-is_toggled-requires
 is-toggled-requires c κs = search rules
 
 returns : tie.Need-returns
 unfolding caps_lock_on
-returns c = c.is-toggled.ensures
+returns c = c.is_toggled.ensures
 
-pub caps-lock-on-spec : {M : Type 1} → statement M
-caps-lock-on-spec = tie.close (tie.spec is-toggled-requires returns)
+pub caps_lock_on_spec : {M : Type 1} → statement M
+caps_lock_on_spec = tie.close (tie.spec
+    is-toggled-requires
+    returns)

@@ -6,11 +6,13 @@ use Rattle.lookup.proofs.block.Read.{flag-read}
 use Rattle.lookup.proofs.keyboard_layout.has_alt_graph.Statement.{statement}
 use Rattle.lookup.proofs.keyboard_layout.has_alt_graph.Tie as tie
 
-shared-slice-read-result : tie.Need-shared-slice-read-result
-shared-slice-read-result c = let h = headed c.before.args.block.now c.before.requires in omega arith
+shared-slice-read-result : tie.Need-bounds-block-0
+shared-slice-read-result c = let h = headed c.args.block.now c.requires in omega arith
 
 returns : tie.Need-returns
-returns c = rw (flag-read c.before.args.block.now)
+returns c = rw (flag-read c.args.block.now)
 
-pub has-alt-graph-spec : {M : Type 1} → statement M
-has-alt-graph-spec = tie.close (tie.spec shared-slice-read-result returns)
+pub has_alt_graph_spec : {M : Type 1} → statement M
+has_alt_graph_spec = tie.close (tie.spec
+    shared-slice-read-result
+    returns)

@@ -7,16 +7,19 @@ use borrow.Author.Rules.{rules}
 use Rattle.lookup.proofs.keyboard_layout.is_down.Statement.{statement}
 use Rattle.lookup.proofs.keyboard_layout.is_down.Tie as tie
 
-returns : tie.Need-returns
+returns : tie.Need-returns-then-state-vk
 unfolding down
-returns c = rw (get_or-eq_default {A = ℕ} _ 0 c.if1.true)
+returns c = rw (get_or-eq_default {A = ℕ} _ 0 c.if-state-vk.true)
 
-shared-slice-read-result : tie.Need-shared-slice-read-result
+shared-slice-read-result : tie.Need-bounds-state-vk
 shared-slice-read-result c = search rules
 
-returns-2 : tie.Need-returns-2
+returns-2 : tie.Need-returns
 unfolding down
 returns-2 c = search rules
 
-pub is-down-spec : {M : Type 1} → statement M
-is-down-spec = tie.close (tie.spec returns shared-slice-read-result returns-2)
+pub is_down_spec : {M : Type 1} → statement M
+is_down_spec = tie.close (tie.spec
+    returns
+    shared-slice-read-result
+    returns-2)

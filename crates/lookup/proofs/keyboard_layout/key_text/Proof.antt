@@ -5,50 +5,50 @@ use native.Mathlib.Omega.{arith}
 use Rattle.lookup.proofs.keyboard_layout.key_text.Statement.{statement}
 use Rattle.lookup.proofs.keyboard_layout.key_text.Tie as tie
 
-sub-result : tie.Need-overflow-sub-result
+sub-result : tie.Need-slice_bounds-result-count
 sub-result c = omega arith
 
-part-result-start : tie.Need-slice-bounds-result-start
+part-result-start : tie.Need-slice_bounds-result-start
 part-result-start c = omega arith
 
-part-result-end : tie.Need-slice-bounds-result-end
+part-result-end : tie.Need-slice_bounds-result-end
 part-result-end c = omega arith
 
-returns : tie.Need-returns
-returns c = part_past c.before.before.args.block.now c.before.before.args.k (omega arith)
+returns : tie.Need-returns-then-block-start
+returns c = part_past c.args.block.now c.args.k (omega arith)
 
-sub-if2 : tie.Need-overflow-sub-if2
+sub-if2 : tie.Need-overflow_sub-block
 sub-if2 c = omega arith
 
-sub-result-2 : tie.Need-overflow-sub-result-2
+sub-result-2 : tie.Need-slice_bounds-result-count-then-block-start-2
 sub-result-2 c = omega arith
 
-part-result-start-2 : tie.Need-slice-bounds-result-start-2
+part-result-start-2 : tie.Need-slice_bounds-result-start-then-block-start-2
 part-result-start-2 c = omega arith
 
-part-result-end-2 : tie.Need-slice-bounds-result-end-2
+part-result-end-2 : tie.Need-slice_bounds-result-end-then-block-start-2
 part-result-end-2 c = omega arith
 
-returns-2 : tie.Need-returns-2
-returns-2 c = part_long c.before.before.before.args.block.now c.before.before.before.args.k (omega arith) (omega arith)
+returns-2 : tie.Need-returns-then-block-start-2
+returns-2 c = part_long c.args.block.now c.args.k (omega arith) (omega arith)
 
-add-e : tie.Need-overflow-add-e
+add-e : tie.Need-overflow_add-e
 add-e c = omega arith
 
-sub-result-3 : tie.Need-overflow-sub-result-3
+sub-result-3 : tie.Need-slice_bounds-result-count-2
 sub-result-3 c = omega arith
 
-part-result-start-3 : tie.Need-slice-bounds-result-start-3
+part-result-start-3 : tie.Need-slice_bounds-result-start-2
 part-result-start-3 c = omega arith
 
-part-result-end-3 : tie.Need-slice-bounds-result-end-3
+part-result-end-3 : tie.Need-slice_bounds-result-end-2
 part-result-end-3 c = omega arith
 
-returns-3 : tie.Need-returns-3
-returns-3 c = part_whole c.before.before.before.args.block.now c.before.before.before.args.k (omega arith) (omega arith)
+returns-3 : tie.Need-returns
+returns-3 c = part_whole c.args.block.now c.args.k (omega arith) (omega arith)
 
-pub key-text-spec : {M : Type 1} → statement M
-key-text-spec =
+pub key_text_spec : {M : Type 1} → statement M
+key_text_spec =
     tie.close
     (tie.spec
     sub-result

@@ -6,35 +6,35 @@ use borrow.Author.Rules.{rules}
 use Rattle.lookup.proofs.keyboard_layout.vkey_for.Statement.{statement}
 use Rattle.lookup.proofs.keyboard_layout.vkey_for.Tie as tie
 
-add-cell : tie.Need-overflow-add-cell
+add-cell : tie.Need-overflow_add-i
 add-cell c = search rules
 
 cell-requires : tie.Need-cell-requires
-cell-requires c κs = let h = headed c.before.before.args.block.now c.before.before.requires in (omega arith, omega arith)
+cell-requires c κs = let h = headed c.args.block.now c.requires in (omega arith, omega arith)
 
-returns : tie.Need-returns
-returns c = page_0 _ _ _ c.before.if1.true c.cell.ensures
+returns : tie.Need-returns-then-i-lt256
+returns c = page_0 _ _ _ c.if-i-lt256.true c.cell.ensures
 
-returns-2 : tie.Need-returns-2
-returns-2 c = no_page _ _ c.before.if1.false c.if2.true
+returns-2 : tie.Need-returns-then-i-lt57344
+returns-2 c = no_page _ _ c.if-i-lt256.false c.if-i-lt57344.true
 
-add-cell-2 : tie.Need-overflow-add-cell-2
+add-cell-2 : tie.Need-overflow_add-i-then-i-lt57856
 add-cell-2 c = search rules
 
-add-cell-3 : tie.Need-overflow-add-cell-3
+add-cell-3 : tie.Need-overflow_add-i-then-i-lt57856-2
 add-cell-3 c = search rules
 
-cell-requires-2 : tie.Need-cell-requires-2
-cell-requires-2 c κs = let h = headed c.before.before.before.before.args.block.now c.before.before.before.before.requires in (omega arith, omega arith)
+cell-requires-2 : tie.Need-cell-requires-then-i-lt57856
+cell-requires-2 c κs = let h = headed c.args.block.now c.requires in (omega arith, omega arith)
 
-returns-3 : tie.Need-returns-3
-returns-3 c = page_e0 _ _ c.before.before.before.if1.false c.before.before.if2.false _ c.before.if3.true c.cell2.ensures
+returns-3 : tie.Need-returns-then-i-lt57856
+returns-3 c = page_e0 _ _ c.if-i-lt256.false c.if-i-lt57344.false _ c.if-i-lt57856.true c.cell-then-i-lt57856.ensures
 
-returns-4 : tie.Need-returns-4
-returns-4 c = past_pages _ _ c.before.before.if1.false c.before.if2.false c.if3.false
+returns-4 : tie.Need-returns
+returns-4 c = past_pages _ _ c.if-i-lt256.false c.if-i-lt57344.false c.if-i-lt57856.false
 
-pub vkey-for-spec : {M : Type 1} → statement M
-vkey-for-spec =
+pub vkey_for_spec : {M : Type 1} → statement M
+vkey_for_spec =
     tie.close
     (tie.spec
     add-cell

@@ -34,11 +34,11 @@ use Rattle.message.proofs.finishing.FinishEffect.{told_completes, held_and_last,
 use Rattle.message.proofs.finishing.finish_character.Statement.{statement}
 use Rattle.message.proofs.finishing.finish_character.Tie as tie
 
-bytes-in : (c : tie.After-slice-known) (i : ℕ) → get_or c.before.args.session.now i 0 < 256
-bytes-in c i = omega (arith, c.slice-known.given i)
+bytes-in : (c : tie.After-slice_known-1) (i : ℕ) → get_or c.args.session.now i 0 < 256
+bytes-in c i = omega (arith, c.slice_known-1.given i)
 
-block_in : (c : tie.After-shared-slice-known2) (i : ℕ) → get_or c.before.before.before.before.args.block.now i 0 < 256
-block_in c i = omega (arith, c.shared-slice-known2.given i)
+block_in : (c : tie.After-shared_slice_known-2-1) (i : ℕ) → get_or c.args.block.now i 0 < 256
+block_in c i = omega (arith, c.shared_slice_known-2-1.given i)
 
 area_in : (c : tie.Start) → IsArea c.args.session.now
 area_in c = c.requires.0.stands.area
@@ -47,133 +47,120 @@ waits_in : (c : tie.Start) → find_wait c.args.token.0 (decode c.args.session.n
 waits_in c = character_waits _ _ _ _ _ c.requires.0
 
 -- from the test back to the areas
-abbrev blocks : tie.After-completes → tie.After-shared-slice-known2
-blocks c = let tables = c.before.before.before in tables.before
+abbrev blocks : tie.After-completes → tie.After-shared_slice_known-2-1
+blocks c = c.before.before.before
 
-abbrev areas : tie.After-completes → tie.After-slice-known
-areas c = (blocks c).before.before.before
+abbrev areas : tie.After-completes → tie.After-slice_known-1
+areas c = c.before.before.before.before.before.before
 
 -- the test is of the press that is held and of what was peeked
 abbrev Asked : tie.After-completes → Bool → Type 0
 Asked c v =
-    let a = (areas c).before.args in (is_held (decode a.session.now).held && not (more_coming (as_peeked a.peeked))) ≡ v
+    let a = c.args in (is_held (decode a.session.now).held && not (more_coming (as_peeked a.peeked))) ≡ v
 
 asked_in : (c : tie.After-completes) (v : Bool) → c.completes.result ≡ v → Asked c v
 asked_in c v e =
-    told_completes _ (areas c).before.args.peeked (args c.completes).0 (args c.completes).1.0 c.completes.ensures e (c.before.header_at.ensures.1, refl)
+    told_completes _ c.args.peeked (args c.completes).0 (args c.completes).1.0 c.completes.ensures e (c.header_at-head.ensures.1, refl)
 
 both-in :
-    (c : tie.Then1) →
-    let a = (areas c.before).before.args in (is_held (decode a.session.now).held ≡ true) × (more_coming (as_peeked a.peeked) ≡ false)
+    (c : tie.Then-completes) →
+    let a = c.args in (is_held (decode a.session.now).held ≡ true) × (more_coming (as_peeked a.peeked) ≡ false)
 both-in c =
-    let a = (areas c.before).before.args in
-    held_and_last (decode a.session.now).held (more_coming (as_peeked a.peeked)) (asked_in c.before true c.if1.true)
+    let a = c.args in
+    held_and_last (decode a.session.now).held (more_coming (as_peeked a.peeked)) (asked_in c.before true c.if-completes.true)
 
 -- the last one: the press that is held stands in the area
-abbrev start : tie.Then1 → tie.After-slice-known
-start c = areas c.before
+abbrev start : tie.Then-completes → tie.After-slice_known-1
+start c = c.before.before.before.before.before.before.before
 
-read-in : (c : tie.Then1) → let x = (start c).before.args.session.now in (decode x).held ≡ some (held_in x)
-read-in c = held_there _ (area_in (start c).before) (both-in c).0
+read-in : (c : tie.Then-completes) → let x = c.args.session.now in (decode x).held ≡ some (held_in x)
+read-in c = held_there _ (area_in c.before.before.before.before.before.before.before.before) (both-in c).0
 
 -- its event, which is in range
-abbrev char-in : tie.Then1 → Event
+abbrev char-in : tie.Then-completes → Event
 char-in c =
-    let a = (start c).before.args in char_event (keyboard_at a.state.now a.block.now) (table_of a.table.now) (held_in a.session.now)
+    let a = c.args in char_event (keyboard_at a.state.now a.block.now) (table_of a.table.now) (held_in a.session.now)
 
-fits_in : (c : tie.Then1) → event_fits (char-in c) ≡ true
+fits_in : (c : tie.Then-completes) → event_fits (char-in c) ≡ true
 fits_in c =
-    let known = start c in
-    let f = held_fits_lem _ (area_in known.before) (both-in c).0 (bytes-in known) in
-    let board = keyboard_at_ok _ known.before.args.state.now (block_in (blocks c.before)) known.before.pre.0.block-ok in
+    let f = held_fits_lem _ (area_in c.before.before.before.before.before.before.before.before) (both-in c).0 (bytes-in c.before.before.before.before.before.before.before) in
+    let board = keyboard_at_ok _ c.args.state.now (block_in c.before.before.before.before) c.requires.0.block-ok in
     char_fits _ _ _ board f.1 f.0
 
 -- the area with none held any more: it is that of a session, and the entry stands where it stood
-abbrev none_in : tie.Then1 → List ℕ
-none_in c = unheld (start c).before.args.session.now (bytes-in (start c)) (area_in (start c).before)
+abbrev none_in : tie.Then-completes → List ℕ
+none_in c = unheld c.args.session.now (bytes-in c.before.before.before.before.before.before.before) (area_in c.before.before.before.before.before.before.before.before)
 
-none-bytes : (c : tie.Then1) (i : ℕ) → get_or (none_in c) i 0 < 256
-none-bytes c = unheld_bytes _ (bytes-in (start c)) (area_in (start c).before)
+none-bytes : (c : tie.Then-completes) (i : ℕ) → get_or (none_in c) i 0 < 256
+none-bytes c = unheld_bytes _ (bytes-in c.before.before.before.before.before.before.before) (area_in c.before.before.before.before.before.before.before.before)
 
-none-area : (c : tie.Then1) → AreaOf (holding (decode (start c).before.args.session.now) none) (none_in c)
-none-area c = forgotten _ (own_area _ (bytes-in (start c)) (area_in (start c).before)) refl
+none-area : (c : tie.Then-completes) → AreaOf (holding (decode c.args.session.now) none) (none_in c)
+none-area c = forgotten _ (own_area _ (bytes-in c.before.before.before.before.before.before.before) (area_in c.before.before.before.before.before.before.before.before)) refl
 
-none-stands : (c : tie.Then1) → let a = (start c).before.args in StandsAt (none_in c) a.token.0 a.place
-none-stands c = same_place _ none _ _ (none-area c) (start c).before.requires.0.stands
+none-stands : (c : tie.Then-completes) → let a = c.args in StandsAt (none_in c) a.token.0 a.place
+none-stands c = same_place _ none _ _ (none-area c) c.requires.0.stands
 
 -- the event stands where it goes, in the area with no press held
 event-in :
-    (c : tie.After-forget-held) →
-    let put = c.before.before.before.before.before.before in
-    let then = put.before.before.before in
-    let a = (start then).before.args in
-    EventStands a.place (char-in then) (none_in then) a.answers.now c.forget-held.new.0 put.put_last.new.1.0
+    (c : tie.After-forget_held) →
+    let a = c.args in
+    EventStands a.place (char-in c.before.before.before.before.before.before.before.before.before) (none_in c.before.before.before.before.before.before.before.before.before) a.answers.now c.forget_held.new.0 c.put_last.new.1.0
 event-in c =
-    let put = c.before.before.before.before.before.before in
-    let known = start put.before.before.before in
-    unheld_stands _ (bytes-in known) (area_in known.before) _ _ put.put_last.ensures c.forget-held.ensures
+    unheld_stands _ (bytes-in c.before.before.before.before.before.before.before.before.before.before.before.before.before.before.before.before) (area_in c.before.before.before.before.before.before.before.before.before.before.before.before.before.before.before.before.before) _ _ c.put_last.ensures c.forget_held.ensures
 
-header-at-requires : tie.Need-header-at-requires
+header-at-requires : tie.Need-header_at-head-requires
 header-at-requires c κs = search rules
 
 completes-requires : tie.Need-completes-requires
 completes-requires c κs = search rules
 
-put-last-requires : tie.Need-put-last-requires
+put-last-requires : tie.Need-put_last-requires
 put-last-requires c κs =
-    let then = c.before.before in
-    let known = start then in
-    let p = known.before.pre in
-    let a = area_in known.before in (
-      record { session = a.size; answers = p.0.answers; few = few case.Character _ _ _ _ _ p.0 (bytes-in known); ok = held_passes _ a (both-in then).0 },
+    let p = c.requires in
+    let a = area_in c.before.before.before.before.before.before.before.before.before.before in (
+      record { session = a.size; answers = p.0.answers; few = few case.Character _ _ _ _ _ p.0 (bytes-in c.before.before.before.before.before.before.before.before.before); ok = held_passes _ a (both-in c.before.before).0 },
       p.0.block-ok,
       p.1,
     )
 
-forget-held-requires : tie.Need-forget-held-requires
+forget-held-requires : tie.Need-forget_held-requires
 forget-held-requires c κs =
-    let put = c.before.before.before.before.before in
-    let known = start put.before.before.before in (same_lengths known.before.args.place put.put_last.ensures).0 ∙ (area_in known.before).size
+    (same_lengths c.args.place c.put_last.ensures).0 ∙ (area_in c.before.before.before.before.before.before.before.before.before.before.before.before.before.before.before.before).size
 
-complete-pending-requires : tie.Need-complete-pending-requires
+complete-pending-requires : tie.Need-complete_pending-requires
 complete-pending-requires c κs =
-    let forgot = c.before.before.before.before in
-    let then = let put = forgot.before.before.before.before.before.before in put.before.before.before in
-    ready _ (none-bytes then) _ _ (none-stands then) (event-in forgot) (start then).before.pre.0.answers
+    let then = c in
+    ready _ (none-bytes then) _ _ (none-stands then) (event-in c.before.before.before.before) (start then).before.requires.0.answers
 
-same_length : tie.Need-same-length
+same_length : tie.Need-shape_of-session-then-completes
 same_length c = search rules
 
-same-length-2 : tie.Need-same-length-2
+same-length-2 : tie.Need-shape_of-answers-then-completes
 same-length-2 c = search rules
 
-returns : tie.Need-returns
+returns : tie.Need-returns-then-completes
 returns c =
-    let completed = c.before.before.before.before in
-    let forgot = completed.before.before.before.before.before in
-    let then = let put = forgot.before.before.before.before.before.before in put.before.before.before in
+    let then = c in
     let first = (start then).before in
     finished _ _ _ _ _ _ _ (char_done _ _ _ _ _ (waits_in first) _ (read-in then) (both-in then).1 refl) _ (none-area then).back
-    (completed.complete-pending.ensures (none_in then) _ (char-in then) (none-bytes then) (none-stands then) (fits_in then) first.pre.0.answers (event-in forgot))
+    (c.complete_pending.ensures (none_in then) _ (char-in then) (none-bytes then) (none-stands then) (fits_in then) first.requires.0.answers (event-in c.before.before.before.before.before.before.before.before.before))
 
-remove-pending-requires : tie.Need-remove-pending-requires
+remove-pending-requires : tie.Need-remove_pending-requires
 remove-pending-requires c κs = search rules
 
-same-length-3 : tie.Need-same-length-3
+same-length-3 : tie.Need-shape_of-session
 same-length-3 c = search rules
 
-same-length-4 : tie.Need-same-length-4
+same-length-4 : tie.Need-shape_of-answers
 same-length-4 c = search rules
 
-returns-2 : tie.Need-returns-2
+returns-2 : tie.Need-returns
 returns-2 c =
-    let removed = c.before.before.before.before in
-    let test = removed.before.before.before in
-    finished _ _ _ _ _ _ _ (char_dropped _ _ _ _ _ (waits_in (areas test.before).before) (asked_in test.before false test.if1.false)) _ refl
-    removed.remove-pending.ensures
+    finished _ _ _ _ _ _ _ (char_dropped _ _ _ _ _ (waits_in c.before.before.before.before.before.before.before.before.before.before.before.before.before.before.before) (asked_in c.before.before.before.before.before.before.before.before false c.if-completes.false)) _ refl
+    c.remove_pending.ensures
 
-pub finish-character-spec : {M : Type 1} → statement M
-finish-character-spec =
+pub finish_character_spec : {M : Type 1} → statement M
+finish_character_spec =
     tie.close
     (tie.spec
     header-at-requires

@@ -28,245 +28,212 @@ use Rattle.message.proofs.finishing.FinishEffect.{press_of, key_of, told-holds, 
 use Rattle.message.proofs.finishing.finish_press.Statement.{statement}
 use Rattle.message.proofs.finishing.finish_press.Tie as tie
 
-bytes-in : (c : tie.After-slice-known) (i : ℕ) → get_or c.before.args.session.now i 0 < 256
-bytes-in c i = omega (arith, c.slice-known.given i)
+bytes-in : (c : tie.After-slice_known-1) (i : ℕ) → get_or c.args.session.now i 0 < 256
+bytes-in c i = omega (arith, c.slice_known-1.given i)
 
-block_in : (c : tie.After-shared-slice-known2) (i : ℕ) → get_or c.before.before.before.before.args.block.now i 0 < 256
-block_in c i = omega (arith, c.shared-slice-known2.given i)
+block_in : (c : tie.After-shared_slice_known-2-1) (i : ℕ) → get_or c.args.block.now i 0 < 256
+block_in c i = omega (arith, c.shared_slice_known-2-1.given i)
 
-place_in : (c : tie.After-slice-known) → c.before.args.place < ENTRIES_MOST
-place_in c = few case.Press _ _ _ _ _ c.before.requires (bytes-in c)
+place_in : (c : tie.After-slice_known-1) → c.args.place < ENTRIES_MOST
+place_in c = few case.Press _ _ _ _ _ c.requires (bytes-in c)
 
-own_in : (c : tie.After-slice-known) → AreaOf (decode c.before.args.session.now) c.before.args.session.now
-own_in c = own_area _ (bytes-in c) c.before.requires.stands.area
+own_in : (c : tie.After-slice_known-1) → AreaOf (decode c.args.session.now) c.args.session.now
+own_in c = own_area _ (bytes-in c) c.requires.stands.area
 
 -- ---- the press, from where it is made back to the areas
 
-abbrev info : tie.After-press-mark → tie.After-from-message
+abbrev info : tie.After-press_mark-mark → tie.After-from_message-n
 info c = c.before.before
 
-abbrev read : tie.After-press-mark → tie.After-pressed-at
-read c = (info c).before
+abbrev read : tie.After-press_mark-mark → tie.After-pressed_at-p
+read c = c.before.before.before.before
 
-abbrev blocks : tie.After-press-mark → tie.After-shared-slice-known2
-blocks c = (read c).before.before.before
+abbrev blocks : tie.After-press_mark-mark → tie.After-shared_slice_known-2-1
+blocks c = c.before.before.before.before.before.before
 
-abbrev areas : tie.After-press-mark → tie.After-slice-known
-areas c = (blocks c).before.before.before
+abbrev areas : tie.After-press_mark-mark → tie.After-slice_known-1
+areas c = c.before.before.before.before.before.before.before.before.before
 
 -- what waits is the press as it was read
 waits_in :
-    (c : tie.After-press-mark) →
-    let a = (areas c).before.args in
-    let r = (read c).pressed-at.result in find_wait a.token.0 (decode a.session.now).entries ≡ some (press r.vkey r.lparam)
-waits_in c = press_waits _ _ _ _ _ (areas c).before.requires (bytes-in (areas c)) _ _ (read c).pressed-at.ensures refl
+    (c : tie.After-press_mark-mark) →
+    let a = c.args in
+    let r = c.pressed_at-p.result in find_wait a.token.0 (decode a.session.now).entries ≡ some (press r.vkey r.lparam)
+waits_in c = press_waits _ _ _ _ _ c.requires (bytes-in c.before.before.before.before.before.before.before.before.before) _ _ c.pressed_at-p.ensures refl
 
 -- the press, with no units yet
-abbrev press_in : tie.After-press-mark → Held
-press_in c = press_of (areas c).before.args.block.now (info c).from-message.result (read c).pressed-at.result.vkey c.press-mark.result
+abbrev press_in : tie.After-press_mark-mark → Held
+press_in c = press_of c.args.block.now c.from_message-n.result c.pressed_at-p.result.vkey c.press_mark-mark.result
 
 made_in :
-    (c : tie.After-press-mark) →
-    let a = (areas c).before.args in
-    let r = (read c).pressed-at.result in press_in c ≡ held_of (keyboard_at a.state.now a.block.now) r.vkey r.lparam
+    (c : tie.After-press_mark-mark) →
+    let a = c.args in
+    let r = c.pressed_at-p.result in press_in c ≡ held_of (keyboard_at a.state.now a.block.now) r.vkey r.lparam
 made_in c =
-    let a = (areas c).before.args in
-    let i = (info c).from-message.ensures.0 in
-    told-held a.block.now a.state.now _ _ (info c).from-message.result i (c.press-mark.ensures _ _ (key_of _ _)) (refl, refl)
+    let a = c.args in
+    let i = c.from_message-n.ensures.0 in
+    told-held a.block.now a.state.now _ _ c.from_message-n.result i (c.press_mark-mark.ensures _ _ (key_of _ _)) (refl, refl)
 
-fits_in : (c : tie.After-press-mark) → held_fits (some (press_in c)) ≡ true
+fits_in : (c : tie.After-press_mark-mark) → held_fits (some (press_in c)) ≡ true
 fits_in c =
-    let p = (areas c).before.requires in
-    let l = press_range _ _ _ _ _ p (bytes-in (areas c)) _ _ (waits_in c) in
-    rw (made_in c) (held_fits_lem _ _ _ (keyboard_at_ok _ (areas c).before.args.state.now (block_in (blocks c)) p.block-ok) l.0 l.1)
+    let p = c.requires in
+    let l = press_range _ _ _ _ _ p (bytes-in c.before.before.before.before.before.before.before.before.before) _ _ (waits_in c) in
+    rw (made_in c) (held_fits_lem _ _ _ (keyboard_at_ok _ c.args.state.now (block_in c.before.before.before.before.before.before) p.block-ok) l.0 l.1)
 
-short-in : (c : tie.After-press-mark) → units_within (some (press_in c)) ≡ true
+short-in : (c : tie.After-press_mark-mark) → units_within (some (press_in c)) ≡ true
 short-in c = rw (made_in c) (new_within _ _ _)
 
 -- ---- what was peeked
 
-held_in_lem : (c : tie.Then1) → holds (as_peeked (areas c.before.before).before.args.peeked) ≡ true
-held_in_lem c = told-holds c.before.holds.ensures c.if1.true refl
+held_in_lem : (c : tie.Then-holds) → holds (as_peeked c.args.peeked) ≡ true
+held_in_lem c = told-holds c.holds.ensures c.if-holds.true refl
 
-passes-in : (c : tie.Else1) → holds (as_peeked (areas c.before.before).before.args.peeked) ≡ false
-passes-in c = told-holds c.before.holds.ensures c.if1.false refl
+passes-in : (c : tie.Else-holds) → holds (as_peeked c.args.peeked) ≡ false
+passes-in c = told-holds c.holds.ensures c.if-holds.false refl
 
 -- from the test for a fake press back to that one, and to the press
-abbrev forgot : tie.After-is-fake → tie.After-forget-held
+abbrev forgot : tie.After-is_fake → tie.After-forget_held
 forgot c = c.before.before.before
 
-abbrev made : tie.After-is-fake → tie.After-press-mark
-made c = (forgot c).before.before.before.before
+abbrev made : tie.After-is_fake → tie.After-press_mark-mark
+made c = c.before.before.before.before.before.before.before
 
 fake-in :
-    (c : tie.Then2) →
-    let m = made c.before in
-    let a = (areas m).before.args in fake (keyboard_at a.state.now a.block.now) (press_in m).info (as_peeked a.peeked) ≡ true
-fake-in c = told-fake _ _ (c.before.is-fake.ensures _ _ (key_of _ _)) c.if2.true refl
+    (c : tie.Then-is_fake) →
+    let a = c.args in fake (keyboard_at a.state.now a.block.now) (press_in c.before.before.before.before.before.before.before.before).info (as_peeked a.peeked) ≡ true
+fake-in c = told-fake _ _ (c.is_fake.ensures _ _ (key_of _ _)) c.if-is_fake.true refl
 
 real-in :
-    (c : tie.Else2) →
-    let m = made c.before in
-    let a = (areas m).before.args in fake (keyboard_at a.state.now a.block.now) (press_in m).info (as_peeked a.peeked) ≡ false
-real-in c = told-fake _ _ (c.before.is-fake.ensures _ _ (key_of _ _)) c.if2.false refl
+    (c : tie.Else-is_fake) →
+    let a = c.args in fake (keyboard_at a.state.now a.block.now) (press_in c.before.before.before.before.before.before.before.before).info (as_peeked a.peeked) ≡ false
+real-in c = told-fake _ _ (c.is_fake.ensures _ _ (key_of _ _)) c.if-is_fake.false refl
 
 -- ---- the press that is held after it: itself, or none
 
 sets-in :
-    (c : tie.After-set-held) →
-    let m = c.before.before.before.before in
-    AreaOf (holding (decode (areas m).before.args.session.now) (some (press_in m))) c.set-held.new.0
+    (c : tie.After-set_held) →
+    AreaOf (holding (decode c.args.session.now) (some (press_in c.before.before.before.before))) c.set_held.new.0
 sets-in c =
-    let m = c.before.before.before.before in
-    held-area _ _ (own_in (areas m)) (short-in m) (fits_in m) c.set-held.ensures
+    held-area _ _ (own_in c.before.before.before.before.before.before.before.before.before.before.before.before.before) (short-in c.before.before.before.before) (fits_in c.before.before.before.before) c.set_held.ensures
 
 forgets-in :
-    (c : tie.After-forget-held) →
-    AreaOf (holding (decode (areas c.before.before.before.before).before.args.session.now) none) c.forget-held.new.0
+    (c : tie.After-forget_held) →
+    AreaOf (holding (decode c.args.session.now) none) c.forget_held.new.0
 forgets-in c =
-    let known = areas c.before.before.before.before in
-    forgotten _ (own_in known) (forgot_plainly (bytes-in known) (own_in known).area c.forget-held.ensures)
+    forgotten _ (own_in c.before.before.before.before.before.before.before.before.before.before.before.before.before) (forgot_plainly (bytes-in c.before.before.before.before.before.before.before.before.before.before.before.before.before) (own_in c.before.before.before.before.before.before.before.before.before.before.before.before.before).area c.forget_held.ensures)
 
 -- ---- where the press is read
 
-at_in : (c : tie.After-slice-known) → ENTRIES_AT + ENTRY_SIZE * c.before.args.place + 4 ≤ length c.before.args.session.now
-at_in c = omega (arith, place_in c, c.before.requires.stands.area.size)
+at_in : (c : tie.After-slice_known-1) → ENTRIES_AT + ENTRY_SIZE * c.args.place + 4 ≤ length c.args.session.now
+at_in c = omega (arith, place_in c, c.requires.stands.area.size)
 
 -- ---- the needs
 
-mul_at : tie.Need-overflow-mul-at
+mul_at : tie.Need-overflow_mul-at
 mul_at c = omega (arith, place_in c.before.before.before)
 
-add_at : tie.Need-overflow-add-at
+add_at : tie.Need-overflow_add-at
 add_at c = omega (arith, place_in c.before.before.before)
 
-add-at-2 : tie.Need-overflow-add-at-2
+add-at-2 : tie.Need-overflow_add-at-2
 add-at-2 c = omega (arith, place_in c.before.before.before)
 
-sub-pressed-at : tie.Need-overflow-sub-pressed-at
+sub-pressed-at : tie.Need-slice_bounds-pressed_at-count
 sub-pressed-at c = omega (arith, at_in c.before.before.before)
 
-part-pressed-at-start : tie.Need-slice-bounds-pressed-at-start
-part-pressed-at-start c = omega (arith, at_in c.before.before.before.before)
+part-pressed-at-start : tie.Need-slice_bounds-pressed_at-start
+part-pressed-at-start c = omega (arith, at_in c.before.before.before)
 
-part-pressed-at-end : tie.Need-slice-bounds-pressed-at-end
+part-pressed-at-end : tie.Need-slice_bounds-pressed_at-end
 part-pressed-at-end c = search rules
 
-pressed-at-requires : tie.Need-pressed-at-requires
+pressed-at-requires : tie.Need-pressed_at-p-requires
 pressed-at-requires c κs =
-    let part = c.before in
-    let known = part.before.before.before.before in
-    press-reads _ _ _ _ _ known.before.requires (bytes-in known) (part-pressed-at-start part) refl
+    press-reads _ _ _ _ _ c.requires (bytes-in c.before.before.before.before) (part-pressed-at-start c.before) refl
 
-from-message-requires : tie.Need-from-message-requires
+from-message-requires : tie.Need-from_message-n-requires
 from-message-requires c κs = search rules
 
-press-mark-requires : tie.Need-press-mark-requires
+press-mark-requires : tie.Need-press_mark-mark-requires
 press-mark-requires c κs = search rules
 
 holds-requires : tie.Need-holds-requires
 holds-requires c κs = search rules
 
-set-held-requires : tie.Need-set-held-requires
+set-held-requires : tie.Need-set_held-requires
 set-held-requires c κs =
-    let m = c.before.before.before in
-    ((own_in (areas m)).area, (info m).from-message.ensures.1, fits_in m)
+    ((own_in c.before.before.before.before.before.before.before.before.before.before.before.before).area, c.from_message-n.ensures.1, fits_in c.before.before.before)
 
-remove-pending-requires : tie.Need-remove-pending-requires
+remove-pending-requires : tie.Need-remove_pending-requires
 remove-pending-requires c κs =
-    let set = c.before.before.before.before in
-    let start = (areas set.before.before.before.before).before in
-    (same_place _ _ _ _ (sets-in set) start.pre.stands, start.pre.answers)
+    (same_place _ _ _ _ (sets-in c.before.before.before.before) c.requires.stands, c.requires.answers)
 
-same_length : tie.Need-same-length
+same_length : tie.Need-shape_of-session-then-holds
 same_length c = search rules
 
-same-length-2 : tie.Need-same-length-2
+same-length-2 : tie.Need-shape_of-answers-then-holds
 same-length-2 c = search rules
 
-returns : tie.Need-returns
+returns : tie.Need-returns-then-holds
 returns c =
-    let removed = c.before.before.before.before in
-    let lent = removed.before in
-    let set = lent.before.before.before.before in
-    let test = set.before.before in
-    let m = test.before.before in
-    λ r. finished _ _ r _ _ _ _ (press-held _ _ r _ _ _ _ (waits_in m) _ (made_in m) (held_in_lem test)) _ (sets-in set).back
-    removed.remove-pending.ensures
+    λ r. finished _ _ r _ _ _ _ (press-held _ _ r _ _ _ _ (waits_in c.before.before.before.before.before.before.before.before.before.before.before.before.before) _ (made_in c.before.before.before.before.before.before.before.before.before.before.before.before.before) (held_in_lem c.before.before.before.before.before.before.before.before.before.before.before)) _ (sets-in c.before.before.before.before.before.before.before.before.before).back
+    c.remove_pending.ensures
 
-forget-held-requires : tie.Need-forget-held-requires
-forget-held-requires c κs = (own_in (areas c.before.before.before)).area.size
+forget-held-requires : tie.Need-forget_held-requires
+forget-held-requires c κs = (own_in c.before.before.before.before.before.before.before.before.before.before.before.before).area.size
 
-is-fake-requires : tie.Need-is-fake-requires
+is-fake-requires : tie.Need-is_fake-requires
 is-fake-requires c κs = search rules
 
-bytes-forgot : (c : tie.After-is-fake) (i : ℕ) → get_or (forgot c).forget-held.new.0 i 0 < 256
-bytes-forgot c i = omega (arith, c.before.slice-known6.given i)
+bytes-forgot : (c : tie.After-is_fake) (i : ℕ) → get_or c.forget_held.new.0 i 0 < 256
+bytes-forgot c i = omega (arith, c.slice_known-3-1.given i)
 
 -- with no press held the entry stands where it stood
 stands-in :
-    (c : tie.After-is-fake) →
-    let a = (areas (made c)).before.args in StandsAt (forgot c).forget-held.new.0 a.token.0 a.place
-stands-in c = same_place _ none _ _ (forgets-in (forgot c)) (areas (made c)).before.requires.stands
+    (c : tie.After-is_fake) →
+    let a = c.args in StandsAt c.forget_held.new.0 a.token.0 a.place
+stands-in c = same_place _ none _ _ (forgets-in c.before.before.before) c.requires.stands
 
-remove-pending-requires-2 : tie.Need-remove-pending-requires-2
+remove-pending-requires-2 : tie.Need-remove_pending-requires-then-is_fake
 remove-pending-requires-2 c κs =
-    let fake = c.before.before.before in
-    (stands-in fake, (areas (made fake)).before.requires.answers)
+    (stands-in c.before.before.before, c.requires.answers)
 
-same-length-3 : tie.Need-same-length-3
+same-length-3 : tie.Need-shape_of-session-then-is_fake
 same-length-3 c = search rules
 
-same-length-4 : tie.Need-same-length-4
+same-length-4 : tie.Need-shape_of-answers-then-is_fake
 same-length-4 c = search rules
 
-returns-2 : tie.Need-returns-2
+returns-2 : tie.Need-returns-then-is_fake
 returns-2 c =
-    let removed = c.before.before.before.before in
-    let test = removed.before.before.before in
-    let k = forgot test.before in
-    let m = made test.before in
-    λ r. finished _ _ r _ _ _ _ (press-fake _ _ r _ _ _ _ (waits_in m) _ (made_in m) (passes-in k.before.before) (fake-in test)) _ (forgets-in k).back
-    removed.remove-pending2.ensures
+    λ r. finished _ _ r _ _ _ _ (press-fake _ _ r _ _ _ _ (waits_in c.before.before.before.before.before.before.before.before.before.before.before.before.before.before.before) _ (made_in c.before.before.before.before.before.before.before.before.before.before.before.before.before.before.before) (passes-in c.before.before.before.before.before.before.before.before.before.before.before.before.before) (fake-in c.before.before.before.before.before.before.before)) _ (forgets-in c.before.before.before.before.before.before.before.before.before.before.before).back
+    c.remove_pending-then-is_fake.ensures
 
-press-event-requires : tie.Need-press-event-requires
+press-event-requires : tie.Need-press_event-e-requires
 press-event-requires c κs = search rules
 
-put-event-requires : tie.Need-put-event-requires
+put-event-requires : tie.Need-put_event-requires
 put-event-requires c κs =
-    let event = c.before.before in
-    let fake = event.before.before in
-    let m = made fake in
-    ((stands-in fake).area.size, (areas m).before.pre.answers, place_in (areas m), (event.press-event.ensures _ (info m).from-message.ensures.1 0).1)
+    ((stands-in c.before.before.before.before).area.size, c.requires.answers, place_in c.before.before.before.before.before.before.before.before.before.before.before.before.before.before.before.before.before.before.before.before, (c.press_event-e.ensures _ c.from_message-n.ensures.1 0).1)
 
-complete-pending-requires : tie.Need-complete-pending-requires
+complete-pending-requires : tie.Need-complete_pending-requires
 complete-pending-requires c κs =
-    let put = c.before.before.before.before.before.before in
-    let event = put.before.before.before in
-    let fake = event.before.before in
-    ready _ (bytes-forgot fake) _ _ (stands-in fake) put.put-event.ensures (areas (made fake)).before.requires.answers
+    ready _ (bytes-forgot c.before.before.before.before.before.before.before.before.before.before.before) _ _ (stands-in c.before.before.before.before.before.before.before.before.before.before.before) c.put_event.ensures c.requires.answers
 
-same-length-5 : tie.Need-same-length-5
+same-length-5 : tie.Need-shape_of-session
 same-length-5 c = search rules
 
-same-length-6 : tie.Need-same-length-6
+same-length-6 : tie.Need-shape_of-answers
 same-length-6 c = search rules
 
-returns-3 : tie.Need-returns-3
+returns-3 : tie.Need-returns
 returns-3 c =
-    let completed = c.before.before.before.before in
-    let lent = completed.before in
-    let put = lent.before.before.before.before.before.before in
-    let event = put.before.before.before in
-    let test = event.before in
-    let k = forgot test.before in
-    let m = made test.before in
-    let e = (event.press-event.ensures _ (info m).from-message.ensures.1 _).0 in
-    λ r. finished _ _ r _ _ _ _ (press_done _ _ r _ _ _ _ (waits_in m) _ (made_in m) (passes-in k.before.before) (real-in test) e) _ (forgets-in k).back
-    (completed.complete-pending.ensures _ _ _ (bytes-forgot test.before) (stands-in test.before) (ap event_fits e ∙ press_fits _ (fits_in m)) (areas m).before.pre.answers put.put-event.ensures)
+    let e = (c.press_event-e.ensures _ c.from_message-n.ensures.1 _).0 in
+    λ r. finished _ _ r _ _ _ _ (press_done _ _ r _ _ _ _ (waits_in c.before.before.before.before.before.before.before.before.before.before.before.before.before.before.before.before.before.before.before.before.before.before.before) _ (made_in c.before.before.before.before.before.before.before.before.before.before.before.before.before.before.before.before.before.before.before.before.before.before.before) (passes-in c.before.before.before.before.before.before.before.before.before.before.before.before.before.before.before.before.before.before.before.before.before) (real-in c.before.before.before.before.before.before.before.before.before.before.before.before.before.before.before) e) _ (forgets-in c.before.before.before.before.before.before.before.before.before.before.before.before.before.before.before.before.before.before.before).back
+    (c.complete_pending.ensures _ _ _ (bytes-forgot c.before.before.before.before.before.before.before.before.before.before.before.before.before.before.before.before) (stands-in c.before.before.before.before.before.before.before.before.before.before.before.before.before.before.before.before) (ap event_fits e ∙ press_fits _ (fits_in c.before.before.before.before.before.before.before.before.before.before.before.before.before.before.before.before.before.before.before.before.before.before.before)) c.requires.answers c.put_event.ensures)
 
-pub finish-press-spec : {M : Type 1} → statement M
-finish-press-spec =
+pub finish_press_spec : {M : Type 1} → statement M
+finish_press_spec =
     tie.close
     (tie.spec
     mul_at

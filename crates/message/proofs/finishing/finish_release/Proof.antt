@@ -25,123 +25,108 @@ use Rattle.message.proofs.finishing.FinishEffect.{told-fake, release-fake, relea
 use Rattle.message.proofs.finishing.finish_release.Statement.{statement}
 use Rattle.message.proofs.finishing.finish_release.Tie as tie
 
-bytes-in : (c : tie.After-slice-known) (i : ℕ) → get_or c.before.args.session.now i 0 < 256
-bytes-in c i = omega (arith, c.slice-known.given i)
+bytes-in : (c : tie.After-slice_known-1) (i : ℕ) → get_or c.args.session.now i 0 < 256
+bytes-in c i = omega (arith, c.slice_known-1.given i)
 
-place_in : (c : tie.After-slice-known) → c.before.args.place < ENTRIES_MOST
-place_in c = few case.Release _ _ _ _ _ c.before.requires (bytes-in c)
+place_in : (c : tie.After-slice_known-1) → c.args.place < ENTRIES_MOST
+place_in c = few case.Release _ _ _ _ _ c.requires (bytes-in c)
 
-own_in : (c : tie.After-slice-known) → AreaOf (decode c.before.args.session.now) c.before.args.session.now
-own_in c = own_area _ (bytes-in c) c.before.requires.stands.area
+own_in : (c : tie.After-slice_known-1) → AreaOf (decode c.args.session.now) c.args.session.now
+own_in c = own_area _ (bytes-in c) c.requires.stands.area
 
 -- from the key that was read back to the areas
-abbrev areas : tie.After-bare-key-at → tie.After-slice-known
-areas c = let part = c.before.before in part.before.before.before.before
+abbrev areas : tie.After-bare_key_at-key → tie.After-slice_known-1
+areas c = c.before.before.before.before.before
 
 -- what is kept of the release
-abbrev kept_in : tie.After-slice-known → Info
-kept_in c = info_at c.before.args.session.now c.before.args.place
+abbrev kept_in : tie.After-slice_known-1 → Info
+kept_in c = info_at c.args.session.now c.args.place
 
 waits_in :
-    (c : tie.After-slice-known) →
-    let a = c.before.args in find_wait a.token.0 (decode a.session.now).entries ≡ some (release (kept_in c))
-waits_in c = release_waits _ _ _ _ _ c.before.requires (bytes-in c)
+    (c : tie.After-slice_known-1) →
+    let a = c.args in find_wait a.token.0 (decode a.session.now).entries ≡ some (release (kept_in c))
+waits_in c = release_waits _ _ _ _ _ c.requires (bytes-in c)
 
-key_in : (c : tie.After-bare-key-at) → bare_of (kept_in (areas c)).logical_key ≡ c.bare-key-at.result
-key_in c = key-read _ _ _ _ _ (areas c).before.requires (bytes-in (areas c)) c.bare-key-at.ensures (omega arith)
+key_in : (c : tie.After-bare_key_at-key) → bare_of (kept_in c.before.before.before.before.before).logical_key ≡ c.bare_key_at-key.result
+key_in c = key-read _ _ _ _ _ c.requires (bytes-in c.before.before.before.before.before) c.bare_key_at-key.ensures (omega arith)
 
 fake-in :
-    (c : tie.Then1) →
-    let k = areas c.before.before in
-    let a = k.before.args in fake (keyboard_at a.state.now a.block.now) (kept_in k) (as_peeked a.peeked) ≡ true
-fake-in c = told-fake _ _ (c.before.is-fake.ensures _ _ (key_in c.before.before)) c.if1.true refl
+    (c : tie.Then-is_fake) →
+    let a = c.args in fake (keyboard_at a.state.now a.block.now) (kept_in c.before.before.before.before.before.before.before) (as_peeked a.peeked) ≡ true
+fake-in c = told-fake _ _ (c.is_fake.ensures _ _ (key_in c.before.before)) c.if-is_fake.true refl
 
 real-in :
-    (c : tie.Else1) →
-    let k = areas c.before.before in
-    let a = k.before.args in fake (keyboard_at a.state.now a.block.now) (kept_in k) (as_peeked a.peeked) ≡ false
-real-in c = told-fake _ _ (c.before.is-fake.ensures _ _ (key_in c.before.before)) c.if1.false refl
+    (c : tie.Else-is_fake) →
+    let a = c.args in fake (keyboard_at a.state.now a.block.now) (kept_in c.before.before.before.before.before.before.before) (as_peeked a.peeked) ≡ false
+real-in c = told-fake _ _ (c.is_fake.ensures _ _ (key_in c.before.before)) c.if-is_fake.false refl
 
-fits_in : (c : tie.After-slice-known) → event_fits (release_event (kept_in c)) ≡ true
-fits_in c = release_fits _ (release_range _ _ _ _ _ c.before.requires (bytes-in c) _ (waits_in c))
+fits_in : (c : tie.After-slice_known-1) → event_fits (release_event (kept_in c)) ≡ true
+fits_in c = release_fits _ (release_range _ _ _ _ _ c.requires (bytes-in c) _ (waits_in c))
 
 -- where its key is read
-at_in : (c : tie.After-slice-known) → ENTRIES_AT + ENTRY_SIZE * c.before.args.place + 9 ≤ length c.before.args.session.now
-at_in c = omega (arith, place_in c, c.before.requires.stands.area.size)
+at_in : (c : tie.After-slice_known-1) → ENTRIES_AT + ENTRY_SIZE * c.args.place + 9 ≤ length c.args.session.now
+at_in c = omega (arith, place_in c, c.requires.stands.area.size)
 
-mul_at : tie.Need-overflow-mul-at
+mul_at : tie.Need-overflow_mul-at
 mul_at c = omega (arith, place_in c.before.before.before)
 
-add_at : tie.Need-overflow-add-at
+add_at : tie.Need-overflow_add-at
 add_at c = omega (arith, place_in c.before.before.before)
 
-add-at-2 : tie.Need-overflow-add-at-2
+add-at-2 : tie.Need-overflow_add-at-2
 add-at-2 c = omega (arith, place_in c.before.before.before)
 
-sub-bare-key-at : tie.Need-overflow-sub-bare-key-at
+sub-bare-key-at : tie.Need-slice_bounds-bare_key_at-count
 sub-bare-key-at c = omega (arith, at_in c.before.before.before)
 
-part-bare-key-at-start : tie.Need-slice-bounds-bare-key-at-start
-part-bare-key-at-start c = omega (arith, at_in c.before.before.before.before)
+part-bare-key-at-start : tie.Need-slice_bounds-bare_key_at-start
+part-bare-key-at-start c = omega (arith, at_in c.before.before.before)
 
-part-bare-key-at-end : tie.Need-slice-bounds-bare-key-at-end
+part-bare-key-at-end : tie.Need-slice_bounds-bare_key_at-end
 part-bare-key-at-end c = search rules
 
-bare-key-at-requires : tie.Need-bare-key-at-requires
+bare-key-at-requires : tie.Need-bare_key_at-key-requires
 bare-key-at-requires c κs =
-    let part = c.before in
-    let known = part.before.before.before.before in
-    key_reads _ _ _ _ _ known.before.requires (bytes-in known) (part-bare-key-at-start part) (omega arith)
+    key_reads _ _ _ _ _ c.requires (bytes-in c.before.before.before.before) (part-bare-key-at-start c.before) (omega arith)
 
-is-fake-requires : tie.Need-is-fake-requires
+is-fake-requires : tie.Need-is_fake-requires
 is-fake-requires c κs = search rules
 
-remove-pending-requires : tie.Need-remove-pending-requires
+remove-pending-requires : tie.Need-remove_pending-requires
 remove-pending-requires c κs = search rules
 
-same_length : tie.Need-same-length
+same_length : tie.Need-shape_of-session-then-is_fake
 same_length c = search rules
 
-same-length-2 : tie.Need-same-length-2
+same-length-2 : tie.Need-shape_of-answers-then-is_fake
 same-length-2 c = search rules
 
-returns : tie.Need-returns
+returns : tie.Need-returns-then-is_fake
 returns c =
-    let removed = c.before.before.before.before in
-    let test = removed.before.before.before in
-    λ r. finished _ _ r _ _ _ _ (release-fake _ _ r _ _ _ (waits_in (areas test.before.before)) (fake-in test)) _ refl removed.remove-pending.ensures
+    λ r. finished _ _ r _ _ _ _ (release-fake _ _ r _ _ _ (waits_in c.before.before.before.before.before.before.before.before.before.before.before.before.before.before) (fake-in c.before.before.before.before.before.before.before)) _ refl c.remove_pending.ensures
 
-put-release-requires : tie.Need-put-release-requires
+put-release-requires : tie.Need-put_release-requires
 put-release-requires c κs =
-    let k = areas c.before.before.before.before in
-    (k.before.pre.stands.area.size, k.before.pre.answers, place_in k, release_passes _ _ _ _ _ k.before.pre (bytes-in k))
+    (c.requires.stands.area.size, c.requires.answers, place_in c.before.before.before.before.before.before.before.before.before, release_passes _ _ _ _ _ c.requires (bytes-in c.before.before.before.before.before.before.before.before.before))
 
-complete-pending-requires : tie.Need-complete-pending-requires
+complete-pending-requires : tie.Need-complete_pending-requires
 complete-pending-requires c κs =
-    let put = c.before.before.before.before.before.before in
-    let test = put.before.before.before in
-    let k = areas test.before.before in
-    ready _ (bytes-in k) _ _ k.before.pre.stands put.put-release.ensures k.before.pre.answers
+    ready _ (bytes-in c.before.before.before.before.before.before.before.before.before.before.before.before.before.before.before.before) _ _ c.requires.stands c.put_release.ensures c.requires.answers
 
-same-length-3 : tie.Need-same-length-3
+same-length-3 : tie.Need-shape_of-session
 same-length-3 c = search rules
 
-same-length-4 : tie.Need-same-length-4
+same-length-4 : tie.Need-shape_of-answers
 same-length-4 c = search rules
 
-returns-2 : tie.Need-returns-2
+returns-2 : tie.Need-returns
 returns-2 c =
-    let completed = c.before.before.before.before in
-    let lent = completed.before in
-    let put = lent.before.before.before.before.before.before in
-    let test = put.before.before.before in
-    let k = areas test.before.before in
-    let p = k.before.pre in
-    λ r. finished _ _ r _ _ _ _ (release_done _ _ r _ _ _ (waits_in k) (real-in test) refl) _ refl
-    (completed.complete-pending.ensures _ _ _ (bytes-in k) p.stands (fits_in k) p.answers put.put-release.ensures)
+    let p = c.requires in
+    λ r. finished _ _ r _ _ _ _ (release_done _ _ r _ _ _ (waits_in c.before.before.before.before.before.before.before.before.before.before.before.before.before.before.before.before.before.before.before.before.before) (real-in c.before.before.before.before.before.before.before.before.before.before.before.before.before.before) refl) _ refl
+    (c.complete_pending.ensures _ _ _ (bytes-in c.before.before.before.before.before.before.before.before.before.before.before.before.before.before.before.before.before.before.before.before.before) p.stands (fits_in c.before.before.before.before.before.before.before.before.before.before.before.before.before.before.before.before.before.before.before.before.before) p.answers c.put_release.ensures)
 
-pub finish-release-spec : {M : Type 1} → statement M
-finish-release-spec =
+pub finish_release_spec : {M : Type 1} → statement M
+finish_release_spec =
     tie.close
     (tie.spec
     mul_at

@@ -19,152 +19,122 @@ abbrev message : tie.Start → ℕ → Message
 message s kind = record { kind = kind; wparam = s.args.wparam; lparam = s.args.lparam }
 
 -- from the match back to what the function is given
-abbrev start : tie.After-shared-slice-known2 → tie.Start
+abbrev start : tie.After-shared_slice_known-2-1 → tie.Start
 start c = c.before.before.before.before
 
 -- ---- each sort: what it counts on, and what it gives
 
-enum_told : tie.Need-enum-told
-enum_told c = c.match.keys1
+enum_told : tie.Need-enum_told-1
+enum_told c = c.in-KeyDown-1.keys1
 
-open-press-requires : tie.Need-open-press-requires
+open-press-requires : tie.Need-open_press-requires
 open-press-requires c κs =
-    let told = c.before.before in
-    let s = start told.before.before in
-    let e = told.enum_told.given.1 in
-    (press_room _ s.pre.0 (board s) (message s 0) _ s.pre.3 e, s.pre.1)
+    let e = c.in-KeyDown.is in
+    (press_room _ c.requires.0 (board c.before.before.before.before.before.before.before) (message c.before.before.before.before.before.before.before 0) _ c.requires.3 e, c.requires.1)
 
-enum-told-2 : tie.Need-enum-told-2
-enum-told-2 c = c.match.keys2
+enum-told-2 : tie.Need-enum_told-in-KeyUp
+enum-told-2 c = c.in-KeyUp-1.keys2
 
-open-release-requires : tie.Need-open-release-requires
+open-release-requires : tie.Need-open_release-requires
 open-release-requires c κs =
-    let told = c.before.before in
-    let s = start told.before.before in
-    let e = told.enum-told2.given.1 in
-    (release_room _ s.pre.0 (board s) (message s 0) _ s.pre.3 e, s.pre.1, s.pre.2)
+    let e = c.in-KeyUp.is in
+    (release_room _ c.requires.0 (board c.before.before.before.before.before.before.before) (message c.before.before.before.before.before.before.before 0) _ c.requires.3 e, c.requires.1, c.requires.2)
 
-enum-told-3 : tie.Need-enum-told-3
-enum-told-3 c = c.match.keys3
+enum-told-3 : tie.Need-enum_told-in-Char
+enum-told-3 c = c.in-Char-1.keys3
 
-open-char-requires : tie.Need-open-char-requires
+open-char-requires : tie.Need-open_char-requires
 open-char-requires c κs =
-    let told = c.before.before in
-    let s = start told.before.before in
-    let e = told.enum-told3.given.1 in
-    (may_char _ s.pre.0 (board s) (message s 0) _ s.pre.3 e, s.pre.1)
+    let e = c.in-Char.is in
+    (may_char _ c.requires.0 (board c.before.before.before.before.before.before.before) (message c.before.before.before.before.before.before.before 0) _ c.requires.3 e, c.requires.1)
 
-enum-told-4 : tie.Need-enum-told-4
-enum-told-4 c = c.match.keys4
+enum-told-4 : tie.Need-enum_told-in-DeadChar
+enum-told-4 c = c.in-DeadChar-1.keys4
 
-answer-dead-char-requires : tie.Need-answer-dead-char-requires
+answer-dead-char-requires : tie.Need-answer_dead_char-requires
 answer-dead-char-requires c κs =
-    let told = c.before.before in
-    let s = start told.before.before in
-    let e = told.enum-told4.given.1 in
-    (dead-char_room _ s.pre.0 (board s) (message s 0) _ s.pre.3 e, dead-char-held _ s.pre.0 (board s) (message s 0) _ s.pre.3 e, s.pre.1)
+    let e = c.in-DeadChar.is in
+    (dead-char_room _ c.requires.0 (board c.before.before.before.before.before.before.before) (message c.before.before.before.before.before.before.before 0) _ c.requires.3 e, dead-char-held _ c.requires.0 (board c.before.before.before.before.before.before.before) (message c.before.before.before.before.before.before.before 0) _ c.requires.3 e, c.requires.1)
 
-enum-known-sort : tie.Need-enum-known-sort
-enum-known-sort c = c.match.keys5
+enum-known-sort : tie.Need-enum_known-sort
+enum-known-sort c = c.in-Focus-1.keys5
 
-answer-focus-requires : tie.Need-answer-focus-requires
+answer-focus-requires : tie.Need-answer_focus-requires
 answer-focus-requires c κs =
-    let told = c.before.before.before in
-    let s = start told.before.before in
-    (s.pre.0, s.pre.2, s.pre.1, focus_fits _ s.pre.0 (board s) (message s 0) _ s.pre.3 _ told.sort.given.1)
+    (c.requires.0, c.requires.2, c.requires.1, focus_fits _ c.requires.0 (board c.before.before.before.before.before.before.before) (message c.before.before.before.before.before.before.before 0) _ c.requires.3 _ c.in-Focus.is)
 
-enum-told-5 : tie.Need-enum-told-5
-enum-told-5 c = c.match.keys6
+enum-told-5 : tie.Need-enum_told-in-Ignored
+enum-told-5 c = c.in-Ignored-1.keys6
 
-open-none-requires : tie.Need-open-none-requires
+open-none-requires : tie.Need-open_none-requires
 open-none-requires c κs = search rules
 
-same_length : tie.Need-same-length
+same_length : tie.Need-shape_of-session-in-KeyDown
 same_length c = search rules
 
-same-length-2 : tie.Need-same-length-2
+same-length-2 : tie.Need-shape_of-answers-in-KeyDown
 same-length-2 c = search rules
 
-returns : tie.Need-returns
+returns : tie.Need-returns-in-KeyDown
 returns c =
     λ kind.
-    let done = c.before.before.before.before in
-    let told = done.before.before.before in
-    let s = start told.before.before in
-    by_press _ (board s) (message s kind) told.enum_told.given.1 done.open-press.ensures (refl, refl)
+    by_press _ (board c.before.before.before.before.before.before.before.before.before.before.before.before) (message c.before.before.before.before.before.before.before.before.before.before.before.before kind) c.in-KeyDown.is c.open_press.ensures (refl, refl)
 
-same-length-3 : tie.Need-same-length-3
+same-length-3 : tie.Need-shape_of-session-in-KeyUp
 same-length-3 c = search rules
 
-same-length-4 : tie.Need-same-length-4
+same-length-4 : tie.Need-shape_of-answers-in-KeyUp
 same-length-4 c = search rules
 
-returns-2 : tie.Need-returns-2
+returns-2 : tie.Need-returns-in-KeyUp
 returns-2 c =
     λ kind.
-    let done = c.before.before.before.before in
-    let told = done.before.before.before in
-    let s = start told.before.before in
-    by_release _ (board s) (message s kind) told.enum-told2.given.1 done.open-release.ensures (refl, refl)
+    by_release _ (board c.before.before.before.before.before.before.before.before.before.before.before.before) (message c.before.before.before.before.before.before.before.before.before.before.before.before kind) c.in-KeyUp.is c.open_release.ensures (refl, refl)
 
-same-length-5 : tie.Need-same-length-5
+same-length-5 : tie.Need-shape_of-session-in-Char
 same-length-5 c = search rules
 
-same-length-6 : tie.Need-same-length-6
+same-length-6 : tie.Need-shape_of-answers-in-Char
 same-length-6 c = search rules
 
-returns-3 : tie.Need-returns-3
+returns-3 : tie.Need-returns-in-Char
 returns-3 c =
     λ kind.
-    let done = c.before.before.before.before in
-    let told = done.before.before.before in
-    let s = start told.before.before in
-    by_char _ (board s) (message s kind) told.enum-told3.given.1 (done.open-char.ensures kind s.args.lparam)
+    by_char _ (board c.before.before.before.before.before.before.before.before.before.before.before.before) (message c.before.before.before.before.before.before.before.before.before.before.before.before kind) c.in-Char.is (c.open_char.ensures kind c.args.lparam)
 
-same-length-7 : tie.Need-same-length-7
+same-length-7 : tie.Need-shape_of-session-in-DeadChar
 same-length-7 c = search rules
 
-same-length-8 : tie.Need-same-length-8
+same-length-8 : tie.Need-shape_of-answers-in-DeadChar
 same-length-8 c = search rules
 
-returns-4 : tie.Need-returns-4
+returns-4 : tie.Need-returns-in-DeadChar
 returns-4 c =
     λ kind.
-    let done = c.before.before.before.before in
-    let told = done.before.before.before in
-    let s = start told.before.before in
-    by_dead-char _ (board s) (message s kind) told.enum-told4.given.1 done.answer-dead-char.ensures
+    by_dead-char _ (board c.before.before.before.before.before.before.before.before.before.before.before.before) (message c.before.before.before.before.before.before.before.before.before.before.before.before kind) c.in-DeadChar.is c.answer_dead_char.ensures
 
-same-length-9 : tie.Need-same-length-9
+same-length-9 : tie.Need-shape_of-session-in-Focus
 same-length-9 c = search rules
 
-same-length-10 : tie.Need-same-length-10
+same-length-10 : tie.Need-shape_of-answers-in-Focus
 same-length-10 c = search rules
 
-returns-5 : tie.Need-returns-5
+returns-5 : tie.Need-returns-in-Focus
 returns-5 c =
     λ kind.
-    let done = c.before.before.before.before in
-    let told = done.before.before.before.before in
-    let s = start told.before.before in
-    by_focus _ (board s) (message s kind) _ told.sort.given.1 done.answer-focus.ensures
+    by_focus _ (board c.before.before.before.before.before.before.before.before.before.before.before.before) (message c.before.before.before.before.before.before.before.before.before.before.before.before kind) _ c.in-Focus.is c.answer_focus.ensures
 
-same-length-11 : tie.Need-same-length-11
+same-length-11 : tie.Need-shape_of-answers-in-Ignored
 same-length-11 c = search rules
 
-returns-6 : tie.Need-returns-6
+returns-6 : tie.Need-returns-in-Ignored
 returns-6 c =
     λ kind.
-    let done = c.before.before in
-    let told = done.before.before in
-    let areas = told.before.before.before.before in
-    let known = areas.before in
-    let s = known.before in
-    by_ignored _ (λ i. omega (arith, known.slice-known.given i)) s.requires.0 (board s) (message s kind) told.enum-told5.given.1
-    done.Open-none.ensures.0 done.Open-none.ensures.1
+    by_ignored _ (λ i. omega (arith, c.slice_known-1.given i)) c.requires.0 (board c.before.before.before.before.before.before.before.before.before) (message c.before.before.before.before.before.before.before.before.before kind) c.in-Ignored.is
+    c.open_none.ensures.0 c.open_none.ensures.1
 
-pub open-by-spec : {M : Type 1} → statement M
-open-by-spec =
+pub open_by_spec : {M : Type 1} → statement M
+open_by_spec =
     tie.close
     (tie.spec
     enum_told

@@ -7,35 +7,32 @@ use Rattle.message.proofs.opening.MessageOpened.{press-opened}
 use Rattle.message.proofs.opening.open_press.Statement.{statement}
 use Rattle.message.proofs.opening.open_press.Tie as tie
 
-virtual-key-requires : tie.Need-virtual-key-requires
+virtual-key-requires : tie.Need-virtual_key-vkey-requires
 virtual-key-requires c κs = search rules
 
-destructure-key-lparam-requires : tie.Need-destructure-key-lparam-requires
+destructure-key-lparam-requires : tie.Need-destructure_key_lparam-l-requires
 destructure-key-lparam-requires c κs = search rules
 
-add-press-requires : tie.Need-add-press-requires
+add-press-requires : tie.Need-add_press-token-requires
 add-press-requires c κs = search rules
 
-no-events-requires : tie.Need-no-events-requires
+no-events-requires : tie.Need-no_events-requires
 no-events-requires c κs = search rules
 
-same_length : tie.Need-same-length
+same_length : tie.Need-shape_of-session
 same_length c = search rules
 
-same-length-2 : tie.Need-same-length-2
+same-length-2 : tie.Need-shape_of-answers
 same-length-2 c = search rules
 
 returns : tie.Need-returns
 returns c =
-    let none = c.before.before in
-    let put = none.before.before.before.before in
-    let read = put.before.before in
-    let a = read.before.before.before.before.args in
-    press-opened (decode a.session.now) a.wparam a.lparam (decode a.session.now).held put.add-press.ensures none.no-events.ensures
-    read.before.virtual-key.ensures read.destructure-key-lparam.ensures (refl, refl) refl
+    let a = c.args in
+    press-opened (decode a.session.now) a.wparam a.lparam (decode a.session.now).held c.add_press-token.ensures c.no_events.ensures
+    c.virtual_key-vkey.ensures c.destructure_key_lparam-l.ensures (refl, refl) refl
 
-pub open-press-spec : {M : Type 1} → statement M
-open-press-spec =
+pub open_press_spec : {M : Type 1} → statement M
+open_press_spec =
     tie.close
     (tie.spec
     virtual-key-requires

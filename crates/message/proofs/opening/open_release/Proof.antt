@@ -12,48 +12,40 @@ use Rattle.message.proofs.opening.MessageOpened.{opened, release-read, release_f
 use Rattle.message.proofs.opening.open_release.Statement.{statement}
 use Rattle.message.proofs.opening.open_release.Tie as tie
 
-virtual-key-requires : tie.Need-virtual-key-requires
+virtual-key-requires : tie.Need-virtual_key-vkey-requires
 virtual-key-requires c κs = search rules
 
-destructure-key-lparam-requires : tie.Need-destructure-key-lparam-requires
+destructure-key-lparam-requires : tie.Need-destructure_key_lparam-l-requires
 destructure-key-lparam-requires c κs = search rules
 
-from-message-requires : tie.Need-from-message-requires
+from-message-requires : tie.Need-from_message-info-requires
 from-message-requires c κs = search rules
 
-add-release-requires : tie.Need-add-release-requires
+add-release-requires : tie.Need-add_release-token-requires
 add-release-requires c κs =
-    let made = c.before in
-    let read = made.before in
-    let known = read.before.before in
-    let s = known.before.before.before.before in
-    let e = made.from-message.ensures in
-    let fits = release_fits s.args.block.now _ (λ i. omega (arith, known.shared-slice-known2.given i)) s.requires.2 s.args.lparam _ _ e.0 read.destructure-key-lparam.ensures in
-    (s.requires.0, e.1, fits)
+    let e = c.from_message-info.ensures in
+    let fits = release_fits c.args.block.now _ (λ i. omega (arith, c.shared_slice_known-2-1.given i)) c.requires.2 c.args.lparam _ _ e.0 c.destructure_key_lparam-l.ensures in
+    (c.requires.0, e.1, fits)
 
-no-events-requires : tie.Need-no-events-requires
+no-events-requires : tie.Need-no_events-requires
 no-events-requires c κs = search rules
 
-same_length : tie.Need-same-length
+same_length : tie.Need-shape_of-session
 same_length c = search rules
 
-same-length-2 : tie.Need-same-length-2
+same-length-2 : tie.Need-shape_of-answers
 same-length-2 c = search rules
 
 returns : tie.Need-returns
 returns c =
-    let none = c.before.before in
-    let put = none.before.before.before.before in
-    let made = put.before.before in
-    let known = made.before.before.before in
-    let a = known.before.before.before.before.args in
+    let a = c.args in
     let board = keyboard_at a.state.now a.block.now in
     opened (decode a.session.now) (release (from_message board (virtual_key a.wparam) (key_lparam a.lparam))) (decode a.session.now).held
-    put.add-release.ensures none.no-events.ensures
-    (release-read board made.from-message.ensures.0 made.before.before.virtual-key.ensures made.before.destructure-key-lparam.ensures (refl, refl)) refl
+    c.add_release-token.ensures c.no_events.ensures
+    (release-read board c.from_message-info.ensures.0 c.virtual_key-vkey.ensures c.destructure_key_lparam-l.ensures (refl, refl)) refl
 
-pub open-release-spec : {M : Type 1} → statement M
-open-release-spec =
+pub open_release_spec : {M : Type 1} → statement M
+open_release_spec =
     tie.close
     (tie.spec
     virtual-key-requires

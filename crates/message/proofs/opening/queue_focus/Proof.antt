@@ -12,92 +12,72 @@ use Rattle.message.proofs.opening.FocusQueued.{QueuedTo, queued_length, none_que
 use Rattle.message.proofs.opening.queue_focus.Statement.{statement}
 use Rattle.message.proofs.opening.queue_focus.Tie as tie
 
-abbrev invariant-loop : tie.invariant-loop
+abbrev invariant-loop : tie.invariant-loop-i
 invariant-loop area₀ state block st keys n i₀ area i = (i ≤ n) × QueuedTo block state st area₀ keys i area
 
-abbrev decreases-loop : tie.decreases-loop
+abbrev decreases-loop : tie.decreases-loop-i
 decreases-loop area₀ state block st keys n i₀ area i = n - i
 
-focus-keys-requires : tie.Need-focus-keys-requires invariant-loop decreases-loop
-focus-keys-requires c κs = c.before.before.before.requires.1
+focus-keys-requires : tie.Need-focus_keys-noted-requires invariant-loop decreases-loop
+focus-keys-requires c κs = c.requires.1
 
-loop-holds : tie.Need-loop-init invariant-loop decreases-loop
+loop-holds : tie.Need-loop-i-init invariant-loop decreases-loop
 loop-holds c =
-    let known = c.before.before.before.before in
-    let start = known.before in
-    let a = start.args in
-    (omega arith, none_queued a.block.now a.state.now a.st a.session.now (λ i. omega (arith, known.slice-known.given i)) start.requires.0 c.before.focus-keys.result.keys)
+    let a = c.args in
+    (omega arith, none_queued a.block.now a.state.now a.st a.session.now (λ i. omega (arith, c.slice_known-1.given i)) c.requires.0 c.focus_keys-noted.result.keys-1)
 
-array-read-synthetic-event : tie.Need-array-read-synthetic-event invariant-loop decreases-loop
+array-read-synthetic-event : tie.Need-bounds-keys-i invariant-loop decreases-loop
 array-read-synthetic-event c = omega arith
 
-synthetic-event-requires : tie.Need-synthetic-event-requires invariant-loop decreases-loop
+synthetic-event-requires : tie.Need-synthetic_event-event-requires invariant-loop decreases-loop
 synthetic-event-requires c κs =
-    let turn = c.before in
-    let noted = turn.before.before in
-    noted.before.before.before.before.requires.1
+    c.requires.1
 
-add-event-requires : tie.Need-add-event-requires invariant-loop decreases-loop
+add-event-requires : tie.Need-add_event-requires invariant-loop decreases-loop
 add-event-requires c κs =
-    let made = c.before in
-    let turn = made.before.before in
-    let noted = turn.before.before in
-    let known = noted.before in
-    let start = known.before.before.before in
-    let a = start.args in
-    let ok = keyboard_at_ok a.block.now a.state.now (λ i. omega (arith, known.shared-slice-known2.given i)) start.requires.1 in
-    let r = noted.focus-keys.result in
-    let k = noted_here a.block.now a.state.now a.st _ _ _ r.keys r.len noted.focus-keys.ensures (refl, refl, refl) in
-    let m = made.synthetic-event.ensures in (
-      next_room a.block.now a.state.now a.st a.session.now start.requires.2 start.requires.3 r.keys r.len k
-          turn.loop.i (omega arith) turn.loop.invariant.1,
+    let a = c.args in
+    let ok = keyboard_at_ok a.block.now a.state.now (λ i. omega (arith, c.shared_slice_known-2-1.given i)) c.requires.1 in
+    let r = c.focus_keys-noted.result in
+    let k = noted_here a.block.now a.state.now a.st _ _ _ r.keys-1 r.len c.focus_keys-noted.ensures (refl, refl, refl) in
+    let m = c.synthetic_event-event.ensures in (
+      next_room a.block.now a.state.now a.st a.session.now c.requires.2 c.requires.3 r.keys-1 r.len k
+          c.loop-i.i (omega arith) c.loop-i.invariant.1,
       m.1,
       rw m.0 (event-fits a.block.now a.state.now a.st ok _),
     )
 
-add-i : tie.Need-overflow-add-i invariant-loop decreases-loop
+add-i : tie.Need-overflow_add-i invariant-loop decreases-loop
 add-i c = omega arith
 
-loop-less : tie.Need-loop-smaller invariant-loop decreases-loop
+loop-less : tie.Need-loop-i-smaller invariant-loop decreases-loop
 loop-less c = omega arith
 
-loop-again : tie.Need-loop-preserved invariant-loop decreases-loop
+loop-again : tie.Need-loop-i-preserved invariant-loop decreases-loop
 loop-again c =
-    let put = c.before.before in
-    let made = put.before.before in
-    let turn = made.before.before in
-    let noted = turn.before.before in
-    let known = noted.before in
-    let start = known.before.before.before in
-    let a = start.args in
-    let ok = keyboard_at_ok a.block.now a.state.now (λ i. omega (arith, known.shared-slice-known2.given i)) start.requires.1 in
-    let r = noted.focus-keys.result in
-    let k = noted_here a.block.now a.state.now a.st _ _ _ r.keys r.len noted.focus-keys.ensures (refl, refl, refl) in
-    let m = made_here a.block.now a.state.now a.st _ _ _ r.keys _ turn.loop.i made.synthetic-event.ensures.0 (refl, refl, refl, omega arith) in (
+    let a = c.args in
+    let ok = keyboard_at_ok a.block.now a.state.now (λ i. omega (arith, c.shared_slice_known-2-1.given i)) c.requires.1 in
+    let r = c.focus_keys-noted.result in
+    let k = noted_here a.block.now a.state.now a.st _ _ _ r.keys-1 r.len c.focus_keys-noted.ensures (refl, refl, refl) in
+    let m = made_here a.block.now a.state.now a.st _ _ _ r.keys-1 _ c.loop-i.i c.synthetic_event-event.ensures.0 (refl, refl, refl, omega arith) in (
       omega arith,
-      next_queued a.block.now a.state.now a.st a.session.now start.requires.2 start.requires.3 r.keys r.len k
-          turn.loop.i (omega arith) turn.loop.invariant.1 ok (event_in a.block.now made.synthetic-event.result) m put.add-event.ensures,
+      next_queued a.block.now a.state.now a.st a.session.now c.requires.2 c.requires.3 r.keys-1 r.len k
+          c.loop-i.i (omega arith) c.loop-i.invariant.1 ok (event_in a.block.now c.synthetic_event-event.result) m c.add_event.ensures,
     )
 
-same_length : tie.Need-same-length invariant-loop decreases-loop
+same_length : tie.Need-shape_of-session invariant-loop decreases-loop
 same_length c =
-    let turn = c.before in
-    let noted = turn.before.before in
-    let start = noted.before.before.before.before in
-    queued_length start.args.session.now _ turn.loop.invariant.1 ∙ sym start.requires.0.size
+    queued_length c.args.session.now _ c.loop-i.invariant.1 ∙ sym c.requires.0.size
 
 returns : tie.Need-returns invariant-loop decreases-loop
 returns c =
-    let turn = c.before in
-    let noted = turn.before.before in
-    let a = noted.before.before.before.before.args in
-    let e : turn.loop.i ≡ noted.focus-keys.result.len = omega arith in
-    let r = noted.focus-keys.result in
-    let k = noted_here a.block.now a.state.now a.st _ _ _ r.keys r.len noted.focus-keys.ensures (refl, refl, refl) in
-    all_queued a.block.now a.state.now a.st a.session.now r.keys r.len k (rw e at turn.loop.invariant.1)
+    let a = c.args in
+    let e : c.loop-i.i ≡ c.focus_keys-noted.result.len = omega arith in
+    let r = c.focus_keys-noted.result in
+    let k = noted_here a.block.now a.state.now a.st _ _ _ r.keys-1 r.len c.focus_keys-noted.ensures (refl, refl, refl) in
+    all_queued a.block.now a.state.now a.st a.session.now r.keys-1 r.len k (rw e at c.loop-i.invariant.1)
 
-pub queue-focus-spec : {M : Type 1} → statement M
-queue-focus-spec =
+pub queue_focus_spec : {M : Type 1} → statement M
+queue_focus_spec =
     tie.close
     (tie.spec
     invariant-loop

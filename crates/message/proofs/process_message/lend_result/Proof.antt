@@ -13,9 +13,9 @@ use Rattle.message.proofs.process_message.lend_result.Code as code
 use Rattle.message.proofs.process_message.lend_result.Proof.Walk.{Callee, caller_meets}
 mod Walk
 
-pub lend-result-spec : {M : Type 1} → stated.statement M
+pub lend_result_spec : {M : Type 1} → stated.statement M
 unfolding code.routine tables_of
-lend-result-spec 𝓤 𝓛 𝓜 𝓡 =
+lend_result_spec 𝓤 𝓛 𝓜 𝓡 =
     entered 𝓤 𝓛.H (triple_of 𝓛 caller.signature (caller.spec 𝓛 𝓜.mem 𝓡.run))
     (tables 𝓤 𝓛.H 𝓜 𝓡 code.env).C (tables 𝓤 𝓛.H 𝓜 𝓡 code.env).Λ #caller code.function (code.unfolded 𝓤 𝓛.H 𝓜 𝓡)
     (caller_meets 𝓛 𝓜.mem 𝓡.run (tables_of 𝓤 𝓛.H 𝓜 (tables 𝓤 𝓛.H 𝓜 𝓡 code.env))

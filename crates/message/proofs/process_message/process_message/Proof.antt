@@ -13,9 +13,9 @@ use Rattle.message.proofs.process_message.process_message.Code as code
 use Rattle.message.proofs.process_message.process_message.Proof.Walk.{Callee, caller_meets}
 mod Walk
 
-pub process-message-spec : {M : Type 1} → stated.statement M
+pub process_message_spec : {M : Type 1} → stated.statement M
 unfolding code.routine tables_of
-process-message-spec 𝓤 𝓛 𝓜 𝓡 =
+process_message_spec 𝓤 𝓛 𝓜 𝓡 =
     entered 𝓤 𝓛.H (triple_of 𝓛 caller.signature (caller.spec 𝓛 𝓜.mem 𝓡.run))
     (tables 𝓤 𝓛.H 𝓜 𝓡 code.env).C (tables 𝓤 𝓛.H 𝓜 𝓡 code.env).Λ #caller code.function (code.unfolded 𝓤 𝓛.H 𝓜 𝓡)
     (caller_meets 𝓛 𝓜.mem 𝓡.run (tables_of 𝓤 𝓛.H 𝓜 (tables 𝓤 𝓛.H 𝓜 𝓡 code.env))

@@ -6,38 +6,36 @@ use borrow.Author.Rules.{rules}
 use Rattle.questions.proofs.check.held_ok.Statement.{statement}
 use Rattle.questions.proofs.check.held_ok.Tie as tie
 
-info-ok-requires : tie.Need-info-ok-requires
+info-ok-requires : tie.Need-info_ok-requires
 info-ok-requires c κs = search rules
 
-returns : tie.Need-returns
-returns c = held-info _ _ c.before.info-ok.ensures (not-true _ c.if1.true)
+returns : tie.Need-returns-then-not-info_ok
+returns c = held-info _ _ c.info_ok.ensures (not-true _ c.if-not-info_ok.true-raw)
 
-shared-slice-read-if2 : tie.Need-shared-slice-read-if2
+shared-slice-read-if2 : tie.Need-bounds-s-70
 shared-slice-read-if2 c = search rules
 
-returns-2 : tie.Need-returns-2
-returns-2 c = held-mark _ _ c.before.before.before.info-ok.ensures (not-false _ c.before.before.if1.false) c.if2.true
+returns-2 : tie.Need-returns-then-s-gt1
+returns-2 c = held-mark _ _ c.info_ok.ensures (not-false _ c.if-not-info_ok.false-raw) c.if-s-gt1.true
 
-sub-units-ok : tie.Need-overflow-sub-units-ok
+sub-units-ok : tie.Need-slice_bounds-units_ok-count
 sub-units-ok c = search rules
 
-part-units-ok-start : tie.Need-slice-bounds-units-ok-start
+part-units-ok-start : tie.Need-slice_bounds-units_ok-start
 part-units-ok-start c = search rules
 
-part-units-ok-end : tie.Need-slice-bounds-units-ok-end
+part-units-ok-end : tie.Need-slice_bounds-units_ok-end
 part-units-ok-end c = search rules
 
-units-ok-requires : tie.Need-units-ok-requires
+units-ok-requires : tie.Need-units_ok-requires
 units-ok-requires c κs = search rules
 
-returns-3 : tie.Need-returns-3
+returns-3 : tie.Need-returns
 returns-3 c =
-    let mark = c.before.before in
-    let info = mark.before.before in
-    held_end _ _ info.before.info-ok.ensures (not-false _ info.if1.false) mark.if2.false _ c.units-ok.ensures
+    held_end _ _ c.info_ok.ensures (not-false _ c.if-not-info_ok.false-raw) c.if-s-gt1.false _ c.units_ok.ensures
 
-pub held-ok-spec : {M : Type 1} → statement M
-held-ok-spec =
+pub held_ok_spec : {M : Type 1} → statement M
+held_ok_spec =
     tie.close
     (tie.spec
     info-ok-requires

@@ -6,58 +6,52 @@ use borrow.Author.Rules.{rules}
 use Rattle.questions.proofs.check.key_ok.Statement.{statement}
 use Rattle.questions.proofs.check.key_ok.Tie as tie
 
-get-u16-requires : tie.Need-get-u16-requires
+get-u16-requires : tie.Need-get_u16-number-requires
 get-u16-requires c κs = search rules
 
-get-u32-requires : tie.Need-get-u32-requires
+get-u32-requires : tie.Need-get_u32-value-requires
 get-u32-requires c κs = search rules
 
-shared-slice-read-key-ok : tie.Need-shared-slice-read-key-ok
+shared-slice-read-key-ok : tie.Need-bounds-s-2
 shared-slice-read-key-ok c = search rules
 
-key-ok-requires : tie.Need-key-ok-requires
+key-ok-requires : tie.Need-key_ok-requires
 key-ok-requires c κs = search rules
 
-returns : tie.Need-returns
+returns : tie.Need-returns-then-not-key_ok
 returns c =
-    let value = c.before.before.before in
-    key-fields _ _ _ _ value.before.get-u16.ensures value.get-u32.ensures _ c.before.key-ok.ensures (not-true _ c.if1.true)
+    key-fields _ _ _ _ c.get_u16-number.ensures c.get_u32-value.ensures _ c.key_ok.ensures (not-true _ c.if-not-key_ok.true-raw)
 
-shared-slice-read-key-text-ok : tie.Need-shared-slice-read-key-text-ok
+shared-slice-read-key-text-ok : tie.Need-bounds-s-7
 shared-slice-read-key-text-ok c = search rules
 
-key-text-ok-requires : tie.Need-key-text-ok-requires
+key-text-ok-requires : tie.Need-key_text_ok-requires
 key-text-ok-requires c κs = search rules
 
-returns-2 : tie.Need-returns-2
+returns-2 : tie.Need-returns-then-not-key_text_ok
 returns-2 c =
-    let fields = c.before.before.before in
-    let value = fields.before.before.before in
-    key-text _ _ _ _ value.before.get-u16.ensures value.get-u32.ensures _ fields.before.key-ok.ensures (not-false _ fields.if1.false) _
-    c.before.key-text-ok.ensures (not-true _ c.if2.true)
+    key-text _ _ _ _ c.get_u16-number.ensures c.get_u32-value.ensures _ c.key_ok.ensures (not-false _ c.if-not-key_ok.false-raw) _
+    c.key_text_ok.ensures (not-true _ c.if-not-key_text_ok.true-raw)
 
-sub-text-ok : tie.Need-overflow-sub-text-ok
+sub-text-ok : tie.Need-slice_bounds-text_ok-count
 sub-text-ok c = search rules
 
-part-text-ok-start : tie.Need-slice-bounds-text-ok-start
+part-text-ok-start : tie.Need-slice_bounds-text_ok-start
 part-text-ok-start c = search rules
 
-part-text-ok-end : tie.Need-slice-bounds-text-ok-end
+part-text-ok-end : tie.Need-slice_bounds-text_ok-end
 part-text-ok-end c = search rules
 
-text-ok-requires : tie.Need-text-ok-requires
+text-ok-requires : tie.Need-text_ok-requires
 text-ok-requires c κs = search rules
 
-returns-3 : tie.Need-returns-3
+returns-3 : tie.Need-returns
 returns-3 c =
-    let text = c.before.before in
-    let fields = text.before.before.before in
-    let value = fields.before.before.before in
-    key_end _ _ _ _ value.before.get-u16.ensures value.get-u32.ensures _ fields.before.key-ok.ensures (not-false _ fields.if1.false) _
-    text.before.key-text-ok.ensures (not-false _ text.if2.false) _ c.text-ok.ensures
+    key_end _ _ _ _ c.get_u16-number.ensures c.get_u32-value.ensures _ c.key_ok.ensures (not-false _ c.if-not-key_ok.false-raw) _
+    c.key_text_ok.ensures (not-false _ c.if-not-key_text_ok.false-raw) _ c.text_ok.ensures
 
-pub key-ok-spec : {M : Type 1} → statement M
-key-ok-spec =
+pub key_ok_spec : {M : Type 1} → statement M
+key_ok_spec =
     tie.close
     (tie.spec
     get-u16-requires

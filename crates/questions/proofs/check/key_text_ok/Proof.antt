@@ -5,13 +5,15 @@ use Rattle.session.specs.Area.{key_text_ok}
 use Rattle.questions.proofs.check.key_text_ok.Statement.{statement}
 use Rattle.questions.proofs.check.key_text_ok.Tie as tie
 
-returns : tie.Need-returns
+returns : tie.Need-returns-then-number-eq0
 unfolding key_text_ok
-returns c = rw (eq-eqb _ _ c.if1.true)
+returns c = rw (eq-eqb _ _ c.if-number-eq0.true)
 
-returns-2 : tie.Need-returns-2
+returns-2 : tie.Need-returns-else-number-eq0
 unfolding key_text_ok
-returns-2 c = rw (ne_eqb _ _ c.if1.false)
+returns-2 c = rw (ne_eqb _ _ c.if-number-eq0.false)
 
-pub key-text-ok-spec : {M : Type 1} → statement M
-key-text-ok-spec = tie.close (tie.spec returns returns-2)
+pub key_text_ok_spec : {M : Type 1} → statement M
+key_text_ok_spec = tie.close (tie.spec
+    returns
+    returns-2)

@@ -5,35 +5,33 @@ use borrow.Author.Rules.{rules}
 use Rattle.questions.proofs.check.marks_ok.Statement.{statement}
 use Rattle.questions.proofs.check.marks_ok.Tie as tie
 
-shared-slice-read-if1 : tie.Need-shared-slice-read-if1
+shared-slice-read-if1 : tie.Need-bounds-s-0
 shared-slice-read-if1 c = search rules
 
-returns : tie.Need-returns
-returns c = marks_location _ c.if1.true
+returns : tie.Need-returns-then-s-gt3
+returns c = marks_location _ c.if-s-gt3.true
 
-shared-slice-read-if2 : tie.Need-shared-slice-read-if2
+shared-slice-read-if2 : tie.Need-bounds-s-1
 shared-slice-read-if2 c = search rules
 
-returns-2 : tie.Need-returns-2
-returns-2 c = marks_state _ c.before.before.if1.false c.if2.true
+returns-2 : tie.Need-returns-then-s-gt1
+returns-2 c = marks_state _ c.if-s-gt3.false c.if-s-gt1.true
 
-shared-slice-read-if3 : tie.Need-shared-slice-read-if3
+shared-slice-read-if3 : tie.Need-bounds-s-2
 shared-slice-read-if3 c = search rules
 
-returns-3 : tie.Need-returns-3
-returns-3 c = marks_repeat _ c.before.before.before.before.if1.false c.before.before.if2.false c.if3.true
+returns-3 : tie.Need-returns-then-s-gt1-2
+returns-3 c = marks_repeat _ c.if-s-gt3.false c.if-s-gt1.false c.if-s-gt1-2.true
 
-shared-slice-read-result : tie.Need-shared-slice-read-result
+shared-slice-read-result : tie.Need-bounds-s-3
 shared-slice-read-result c = search rules
 
-returns-4 : tie.Need-returns-4
+returns-4 : tie.Need-returns
 returns-4 c =
-    let repeat = c.before in
-    let state = repeat.before.before in
-    marks_end _ state.before.before.if1.false state.if2.false repeat.if3.false
+    marks_end _ c.if-s-gt3.false c.if-s-gt1.false c.if-s-gt1-2.false
 
-pub marks-ok-spec : {M : Type 1} → statement M
-marks-ok-spec =
+pub marks_ok_spec : {M : Type 1} → statement M
+marks_ok_spec =
     tie.close
     (tie.spec
     shared-slice-read-if1

@@ -6,32 +6,29 @@ use borrow.Author.Rules.{rules}
 use Rattle.questions.proofs.check.order_ok.Statement.{statement}
 use Rattle.questions.proofs.check.order_ok.Tie as tie
 
-rising-ok-requires : tie.Need-rising-ok-requires
+rising-ok-requires : tie.Need-rising_ok-requires
 rising-ok-requires c κs = search rules
 
-returns : tie.Need-returns
-returns c = no_rise _ _ _ c.before.rising-ok.ensures (not-true _ c.if1.true)
+returns : tie.Need-returns-then-not-rising_ok
+returns c = no_rise _ _ _ c.rising_ok.ensures (not-true _ c.if-not-rising_ok.true-raw)
 
-first-open-requires : tie.Need-first-open-requires
+first-open-requires : tie.Need-first_open-requires
 first-open-requires c κs = search rules
 
-returns-2 : tie.Need-returns-2
+returns-2 : tie.Need-returns-then-not-first_open
 returns-2 c =
-    let rising = c.before.before in
-    no_first _ _ _ rising.before.rising-ok.ensures (not-false _ rising.if1.false) c.before.first-open.ensures (not-true _ c.if2.true)
+    no_first _ _ _ c.rising_ok.ensures (not-false _ c.if-not-rising_ok.false-raw) c.first_open.ensures (not-true _ c.if-not-first_open.true-raw)
 
-open-count-requires : tie.Need-open-count-requires
+open-count-requires : tie.Need-open_count-requires
 open-count-requires c κs = search rules
 
-returns-3 : tie.Need-returns-3
+returns-3 : tie.Need-returns
 returns-3 c =
-    let first = c.before in
-    let rising = first.before.before in
-    by_count _ _ _ rising.before.rising-ok.ensures (not-false _ rising.if1.false) first.before.first-open.ensures (not-false _ first.if2.false)
-    c.open-count.ensures
+    by_count _ _ _ c.rising_ok.ensures (not-false _ c.if-not-rising_ok.false-raw) c.first_open.ensures (not-false _ c.if-not-first_open.false-raw)
+    c.open_count.ensures
 
-pub order-ok-spec : {M : Type 1} → statement M
-order-ok-spec =
+pub order_ok_spec : {M : Type 1} → statement M
+order_ok_spec =
     tie.close
     (tie.spec
     rising-ok-requires

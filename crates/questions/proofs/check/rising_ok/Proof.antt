@@ -6,50 +6,50 @@ use Rattle.questions.proofs.check.Order.{Rises, rises_start, too_low, too_high, 
 use Rattle.questions.proofs.check.rising_ok.Statement.{statement}
 use Rattle.questions.proofs.check.rising_ok.Tie as tie
 
-abbrev invariant-loop : tie.invariant-loop
+abbrev invariant-loop : tie.invariant-loop-i
 invariant-loop s n handed i₀ lo₀ i lo = Rises handed s n i lo
 
-abbrev decreases-loop : tie.decreases-loop
+abbrev decreases-loop : tie.decreases-loop-i
 decreases-loop s n handed i₀ lo₀ i lo = n - i
 
-loop-holds : tie.Need-loop-init invariant-loop decreases-loop
+loop-holds : tie.Need-loop-i-init invariant-loop decreases-loop
 loop-holds c = rises_start _ _ _
 
-mul-get-u16 : tie.Need-overflow-mul-get-u16 invariant-loop decreases-loop
+mul-get-u16 : tie.Need-overflow_mul-i invariant-loop decreases-loop
 mul-get-u16 c = omega arith
 
-get-u16-requires : tie.Need-get-u16-requires invariant-loop decreases-loop
+get-u16-requires : tie.Need-get_u16-token-requires invariant-loop decreases-loop
 get-u16-requires c κs = omega arith
 
-cast-if1 : tie.Need-overflow-cast-if1 invariant-loop decreases-loop
+cast-if1 : tie.Need-overflow_cast-token invariant-loop decreases-loop
 cast-if1 c = omega arith
 
-returns : tie.Need-returns invariant-loop decreases-loop
-returns c = too_low _ _ _ _ _ c.before.before.before.loop.invariant c.before.before.loop-test.true c.before.get-u16.ensures c.if1.true
+returns : tie.Need-returns-then-token-lo invariant-loop decreases-loop
+returns c = too_low _ _ _ _ _ c.loop-i.invariant c.loop-i-test.true c.get_u16-token.ensures c.if-token-lo.true
 
-returns-2 : tie.Need-returns-2 invariant-loop decreases-loop
-returns-2 c = too_high _ _ _ _ _ c.before.before.before.before.loop.invariant c.before.before.before.loop-test.true c.before.before.get-u16.ensures c.before.if1.false c.if2.true
+returns-2 : tie.Need-returns-then-handed-token invariant-loop decreases-loop
+returns-2 c = too_high _ _ _ _ _ c.loop-i.invariant c.loop-i-test.true c.get_u16-token.ensures c.if-token-lo.false c.if-handed-token.true
 
-cast-lo : tie.Need-overflow-cast-lo invariant-loop decreases-loop
+cast-lo : tie.Need-overflow_cast-lo invariant-loop decreases-loop
 cast-lo c = omega arith
 
-add-lo : tie.Need-overflow-add-lo invariant-loop decreases-loop
+add-lo : tie.Need-overflow_add-lo invariant-loop decreases-loop
 add-lo c = omega arith
 
-add-i : tie.Need-overflow-add-i invariant-loop decreases-loop
+add-i : tie.Need-overflow_add-i invariant-loop decreases-loop
 add-i c = omega arith
 
-loop-less : tie.Need-loop-smaller invariant-loop decreases-loop
+loop-less : tie.Need-loop-i-smaller invariant-loop decreases-loop
 loop-less c = omega arith
 
-loop-again : tie.Need-loop-preserved invariant-loop decreases-loop
-loop-again c = rises_next _ _ _ _ _ c.before.before.before.before.loop.invariant c.before.before.before.loop-test.true c.before.before.get-u16.ensures c.before.if1.false c.if2.false
+loop-again : tie.Need-loop-i-preserved invariant-loop decreases-loop
+loop-again c = rises_next _ _ _ _ _ c.loop-i.invariant c.loop-i-test.true c.get_u16-token.ensures c.if-token-lo.false c.if-handed-token.false
 
-returns-3 : tie.Need-returns-3 invariant-loop decreases-loop
-returns-3 c = rises_end _ _ _ _ _ c.before.loop.invariant c.loop-test.false
+returns-3 : tie.Need-returns invariant-loop decreases-loop
+returns-3 c = rises_end _ _ _ _ _ c.loop-i.invariant c.loop-i-test.false
 
-pub rising-ok-spec : {M : Type 1} → statement M
-rising-ok-spec =
+pub rising_ok_spec : {M : Type 1} → statement M
+rising_ok_spec =
     tie.close
     (tie.spec
     invariant-loop

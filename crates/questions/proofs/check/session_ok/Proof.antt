@@ -17,165 +17,150 @@ use Rattle.questions.proofs.check.session_ok.Tie as tie
 
 -- ---- from each test back to the one before it, and to the area
 
-abbrev area : tie.Else1 → List ℕ
-area c = c.before.before.args.session.now
+abbrev area : tie.Else-session-ne-AREA_SIZE → List ℕ
+area c = c.args.session.now
 
-abbrev tokens : tie.Else3 → tie.Else2
+abbrev tokens : tie.Else-not-held_field_ok → tie.Else-handed-gt-TOKENS_MOST
 tokens c = c.before.before.before
 
-abbrev entries : tie.Else6 → tie.Else5
+abbrev entries : tie.Else-not-entries_ok → tie.Else-not-zero_from
 entries c = c.before.before.before
 
-abbrev zeros : tie.Else5 → tie.Else4
+abbrev zeros : tie.Else-not-zero_from → tie.Else-n-gt-ENTRIES_MOST
 zeros c = c.before.before
 
 -- ---- what is left once a test has passed
 
 sized :
-    (c : tie.After-get-u16) →
-    let x = area c.before in Asked x ≡ by_tokens x c.get-u16.result (num 2 COUNT_AT x)
+    (c : tie.After-get_u16-handed) →
+    let x = area c.before in Asked x ≡ by_tokens x c.get_u16-handed.result (num 2 COUNT_AT x)
 sized c =
     let x = area c.before in
-    by_size x c.before.if1.false ∙ ap (λ (h : ℕ). by_tokens x h (num 2 COUNT_AT x)) (sym c.get-u16.ensures)
+    by_size x c.if-session-ne-AREA_SIZE.false ∙ ap (λ (h : ℕ). by_tokens x h (num 2 COUNT_AT x)) (sym c.get_u16-handed.ensures)
 
 few-tokens :
-    (c : tie.Else2) →
-    let x = area c.before.before in Asked x ≡ by_held x c.before.get-u16.result (num 2 COUNT_AT x)
-few-tokens c = next _ _ (sized c.before) (le-leb _ TOKENS_MOST c.if2.false)
+    (c : tie.Else-handed-gt-TOKENS_MOST) →
+    let x = area c.before.before in Asked x ≡ by_held x c.get_u16-handed.result (num 2 COUNT_AT x)
+few-tokens c = next _ _ (sized c.before) (le-leb _ TOKENS_MOST c.if-handed-gt-TOKENS_MOST.false)
 
 right-held :
-    (c : tie.Else3) →
-    let h = (tokens c).before in
-    let x = area h.before in Asked x ≡ by_count x h.get-u16.result (num 2 COUNT_AT x)
+    (c : tie.Else-not-held_field_ok) →
+    let x = area c.before.before.before.before.before in Asked x ≡ by_count x c.get_u16-handed.result (num 2 COUNT_AT x)
 right-held c =
-    let x = area (tokens c).before.before in
-    next_by _ _ (few-tokens (tokens c)) (cut held_field.ok 2 x c.before.held-field-ok.ensures) (not-false _ c.if3.false)
+    let x = area c.before.before.before.before.before in
+    next_by _ _ (few-tokens c.before.before.before) (cut held_field.ok 2 x c.held_field_ok.ensures) (not-false _ c.if-not-held_field_ok.false-raw)
 
 counted :
-    (c : tie.After-get-u162) →
-    let h = (tokens c.before).before in
-    let x = area h.before in Asked x ≡ by_count x h.get-u16.result c.get-u162.result
+    (c : tie.After-get_u16-n) →
+    let x = area c.before.before.before.before.before.before in Asked x ≡ by_count x c.get_u16-handed.result c.get_u16-n.result
 counted c =
-    let h = (tokens c.before).before in
-    let x = area h.before in
-    right-held c.before ∙ ap (λ (n : ℕ). by_count x h.get-u16.result n) (sym c.get-u162.ensures)
+    let x = area c.before.before.before.before.before.before in
+    right-held c.before ∙ ap (λ (n : ℕ). by_count x c.get_u16-handed.result n) (sym c.get_u16-n.ensures)
 
 few-entries :
-    (c : tie.Else4) →
-    let h = (tokens c.before.before).before in
-    let x = area h.before in Asked x ≡ by_zeros x h.get-u16.result c.before.get-u162.result
-few-entries c = next _ _ (counted c.before) (le-leb _ ENTRIES_MOST c.if4.false)
+    (c : tie.Else-n-gt-ENTRIES_MOST) →
+    let x = area c.before.before.before.before.before.before.before in Asked x ≡ by_zeros x c.get_u16-handed.result c.get_u16-n.result
+few-entries c = next _ _ (counted c.before) (le-leb _ ENTRIES_MOST c.if-n-gt-ENTRIES_MOST.false)
 
 zeros-behind :
-    (c : tie.Else5) →
-    let n = (zeros c).before in
-    let h = (tokens n.before).before in
-    let x = area h.before in Asked x ≡ by_entries x h.get-u16.result n.get-u162.result
-zeros-behind c = next_by _ _ (few-entries (zeros c)) c.before.zero-from.ensures (not-false _ c.if5.false)
+    (c : tie.Else-not-zero_from) →
+    let x = area c.before.before.before.before.before.before.before.before.before in Asked x ≡ by_entries x c.get_u16-handed.result c.get_u16-n.result
+zeros-behind c = next_by _ _ (few-entries c.before.before) c.zero_from.ensures (not-false _ c.if-not-zero_from.false-raw)
 
 right-entries :
-    (c : tie.Else6) →
-    let n = (zeros (entries c)).before in
-    let h = (tokens n.before).before in
-    let x = area h.before in Asked x ≡ by_order x h.get-u16.result n.get-u162.result
+    (c : tie.Else-not-entries_ok) →
+    let x = area c.before.before.before.before.before.before.before.before.before.before.before.before in Asked x ≡ by_order x c.get_u16-handed.result c.get_u16-n.result
 right-entries c =
-    let n = (zeros (entries c)).before in
-    let x = area (tokens n.before).before.before in
-    next_by _ _ (zeros-behind (entries c)) (cut (ok_many entry n.get-u162.result) ENTRIES_AT x c.before.entries-ok.ensures) (not-false _ c.if6.false)
+    let x = area c.before.before.before.before.before.before.before.before.before.before.before.before in
+    next_by _ _ (zeros-behind c.before.before.before) (cut (ok_many entry c.get_u16-n.result) ENTRIES_AT x c.entries_ok.ensures) (not-false _ c.if-not-entries_ok.false-raw)
 
 -- ---- the needs
 
-returns : tie.Need-returns
-returns c = no_size c.before.before.args.session.now c.if1.true
+returns : tie.Need-returns-then-session-ne-AREA_SIZE
+returns c = no_size c.args.session.now c.if-session-ne-AREA_SIZE.true
 
-get-u16-requires : tie.Need-get-u16-requires
+get-u16-requires : tie.Need-get_u16-handed-requires
 get-u16-requires c κs = search rules
 
-cast-if2 : tie.Need-overflow-cast-if2
+cast-if2 : tie.Need-overflow_cast-handed
 cast-if2 c = search rules
 
-returns-2 : tie.Need-returns-2
-returns-2 c = stop _ _ (sized c.before) (lt-leb _ TOKENS_MOST c.if2.true)
+returns-2 : tie.Need-returns-then-handed-gt-TOKENS_MOST
+returns-2 c = stop _ _ (sized c.before) (lt-leb _ TOKENS_MOST c.if-handed-gt-TOKENS_MOST.true)
 
-sub-held-field-ok : tie.Need-overflow-sub-held-field-ok
+sub-held-field-ok : tie.Need-slice_bounds-held_field_ok-count
 sub-held-field-ok c = search rules
 
-part-held-field-ok-start : tie.Need-slice-bounds-held-field-ok-start
+part-held-field-ok-start : tie.Need-slice_bounds-held_field_ok-start
 part-held-field-ok-start c = search rules
 
-part-held-field-ok-end : tie.Need-slice-bounds-held-field-ok-end
+part-held-field-ok-end : tie.Need-slice_bounds-held_field_ok-end
 part-held-field-ok-end c = search rules
 
-held-field-ok-requires : tie.Need-held-field-ok-requires
+held-field-ok-requires : tie.Need-held_field_ok-requires
 held-field-ok-requires c κs = search rules
 
-returns-3 : tie.Need-returns-3
+returns-3 : tie.Need-returns-then-not-held_field_ok
 returns-3 c =
-    let tokens = c.before.before.before in
-    stop_by _ _ (few-tokens tokens) (cut held_field.ok 2 (area tokens.before.before) c.before.held-field-ok.ensures) (not-true _ c.if3.true)
+    stop_by _ _ (few-tokens c.before.before.before) (cut held_field.ok 2 (area c.before.before.before.before.before) c.held_field_ok.ensures) (not-true _ c.if-not-held_field_ok.true-raw)
 
-get-u16-requires-2 : tie.Need-get-u16-requires-2
+get-u16-requires-2 : tie.Need-get_u16-n-requires
 get-u16-requires-2 c κs = search rules
 
-cast-n : tie.Need-overflow-cast-n
+cast-n : tie.Need-overflow_cast-n
 cast-n c = search rules
 
-returns-4 : tie.Need-returns-4
-returns-4 c = stop _ _ (counted c.before) (lt-leb _ ENTRIES_MOST c.if4.true)
+returns-4 : tie.Need-returns-then-n-gt-ENTRIES_MOST
+returns-4 c = stop _ _ (counted c.before) (lt-leb _ ENTRIES_MOST c.if-n-gt-ENTRIES_MOST.true)
 
-mul-zero-from : tie.Need-overflow-mul-zero-from
+mul-zero-from : tie.Need-overflow_mul-n
 mul-zero-from c = search rules
 
-add-zero-from : tie.Need-overflow-add-zero-from
+add-zero-from : tie.Need-overflow_add-n
 add-zero-from c = search rules
 
-zero-from-requires : tie.Need-zero-from-requires
+zero-from-requires : tie.Need-zero_from-requires
 zero-from-requires c κs = search rules
 
-returns-5 : tie.Need-returns-5
-returns-5 c = stop_by _ _ (few-entries c.before.before) c.before.zero-from.ensures (not-true _ c.if5.true)
+returns-5 : tie.Need-returns-then-not-zero_from
+returns-5 c = stop_by _ _ (few-entries c.before.before) c.zero_from.ensures (not-true _ c.if-not-zero_from.true-raw)
 
-sub-entries-ok : tie.Need-overflow-sub-entries-ok
+sub-entries-ok : tie.Need-slice_bounds-entries_ok-count
 sub-entries-ok c = search rules
 
-part-entries-ok-start : tie.Need-slice-bounds-entries-ok-start
+part-entries-ok-start : tie.Need-slice_bounds-entries_ok-start
 part-entries-ok-start c = search rules
 
-part-entries-ok-end : tie.Need-slice-bounds-entries-ok-end
+part-entries-ok-end : tie.Need-slice_bounds-entries_ok-end
 part-entries-ok-end c = search rules
 
-entries-ok-requires : tie.Need-entries-ok-requires
+entries-ok-requires : tie.Need-entries_ok-requires
 entries-ok-requires c κs = search rules
 
-returns-6 : tie.Need-returns-6
+returns-6 : tie.Need-returns-then-not-entries_ok
 returns-6 c =
-    let before = c.before.before.before in
-    let n = (zeros before).before in
-    let x = area (tokens n.before).before.before in
-    stop_by _ _ (zeros-behind before) (cut (ok_many entry n.get-u162.result) ENTRIES_AT x c.before.entries-ok.ensures) (not-true _ c.if6.true)
+    let x = area c.before.before.before.before.before.before.before.before.before.before.before.before in
+    stop_by _ _ (zeros-behind c.before.before.before) (cut (ok_many entry c.get_u16-n.result) ENTRIES_AT x c.entries_ok.ensures) (not-true _ c.if-not-entries_ok.true-raw)
 
-sub-order-ok : tie.Need-overflow-sub-order-ok
+sub-order-ok : tie.Need-slice_bounds-order_ok-count
 sub-order-ok c = search rules
 
-part-order-ok-start : tie.Need-slice-bounds-order-ok-start
+part-order-ok-start : tie.Need-slice_bounds-order_ok-start
 part-order-ok-start c = search rules
 
-part-order-ok-end : tie.Need-slice-bounds-order-ok-end
+part-order-ok-end : tie.Need-slice_bounds-order_ok-end
 part-order-ok-end c = search rules
 
-order-ok-requires : tie.Need-order-ok-requires
+order-ok-requires : tie.Need-order_ok-requires
 order-ok-requires c κs = search rules
 
-returns-7 : tie.Need-returns-7
+returns-7 : tie.Need-returns
 returns-7 c =
-    let right = c.before.before in
-    let n = (zeros (entries right)).before in
-    let h = (tokens n.before).before in
-    cut (λ (l : List ℕ). ordered h.get-u16.result (get_many entry n.get-u162.result l)) ENTRIES_AT (area h.before) c.order-ok.ensures
-    ∙ sym (right-entries right)
+    cut (λ (l : List ℕ). ordered c.get_u16-handed.result (get_many entry c.get_u16-n.result l)) ENTRIES_AT (area c.before.before.before.before.before.before.before.before.before.before.before.before.before.before) c.order_ok.ensures
+    ∙ sym (right-entries c.before.before)
 
-pub session-ok-spec : {M : Type 1} → statement M
-session-ok-spec =
+pub session_ok_spec : {M : Type 1} → statement M
+session_ok_spec =
     tie.close
     (tie.spec
     returns

@@ -6,29 +6,29 @@ use borrow.Author.Rules.{rules}
 use Rattle.questions.proofs.check.units_ok.Statement.{statement}
 use Rattle.questions.proofs.check.units_ok.Tie as tie
 
-shared-slice-read-n : tie.Need-shared-slice-read-n
+shared-slice-read-n : tie.Need-bounds-s-0
 shared-slice-read-n c = search rules
 
-cast-n : tie.Need-overflow-cast-n
-cast-n c = omega (arith, c.shared-slice-known2.given 0)
+cast-n : tie.Need-overflow_cast-n
+cast-n c = omega (arith, c.shared_slice_known-2-1.given 0)
 
-returns : tie.Need-returns
-returns c = units_long _ c.if1.true
+returns : tie.Need-returns-then-n-gt-UNITS_MOST
+returns c = units_long _ c.if-n-gt-UNITS_MOST.true
 
-mul-zero-part : tie.Need-overflow-mul-zero-part
+mul-zero-part : tie.Need-overflow_mul-n
 mul-zero-part c = search rules
 
-add-zero-part : tie.Need-overflow-add-zero-part
+add-zero-part : tie.Need-overflow_add-n
 add-zero-part c = search rules
 
-zero-part-requires : tie.Need-zero-part-requires
+zero-part-requires : tie.Need-zero_part-requires
 zero-part-requires c κs = search rules
 
-returns-2 : tie.Need-returns-2
-returns-2 c = units_end _ c.before.if1.false _ c.zero-part.ensures
+returns-2 : tie.Need-returns
+returns-2 c = units_end _ c.if-n-gt-UNITS_MOST.false _ c.zero_part.ensures
 
-pub units-ok-spec : {M : Type 1} → statement M
-units-ok-spec =
+pub units_ok_spec : {M : Type 1} → statement M
+units_ok_spec =
     tie.close
     (tie.spec
     shared-slice-read-n

@@ -6,71 +6,69 @@ use borrow.Author.Rules.{rules}
 use Rattle.questions.proofs.check.wait_ok.Statement.{statement}
 use Rattle.questions.proofs.check.wait_ok.Tie as tie
 
-shared-slice-read-if1 : tie.Need-shared-slice-read-if1
+shared-slice-read-if1 : tie.Need-bounds-s-0
 shared-slice-read-if1 c = search rules
 
-sub-pressed-ok : tie.Need-overflow-sub-pressed-ok
+sub-pressed-ok : tie.Need-slice_bounds-pressed_ok-count
 sub-pressed-ok c = search rules
 
-part-pressed-ok-start : tie.Need-slice-bounds-pressed-ok-start
+part-pressed-ok-start : tie.Need-slice_bounds-pressed_ok-start
 part-pressed-ok-start c = search rules
 
-part-pressed-ok-end : tie.Need-slice-bounds-pressed-ok-end
+part-pressed-ok-end : tie.Need-slice_bounds-pressed_ok-end
 part-pressed-ok-end c = search rules
 
-pressed-ok-requires : tie.Need-pressed-ok-requires
+pressed-ok-requires : tie.Need-pressed_ok-requires
 pressed-ok-requires c κs = search rules
 
-returns : tie.Need-returns
-returns c = no_press _ c.before.before.before.if1.true c.before.pressed-ok.ensures (not-true _ c.if2.true)
+returns : tie.Need-returns-then-not-pressed_ok
+returns c = no_press _ c.if-s-eq0.true c.pressed_ok.ensures (not-true _ c.if-not-pressed_ok.true-raw)
 
-zero-part-requires : tie.Need-zero-part-requires
+zero-part-requires : tie.Need-zero_part-requires
 zero-part-requires c κs = search rules
 
-returns-2 : tie.Need-returns-2
-returns-2 c = is_press _ c.before.before.before.before.if1.true c.before.before.pressed-ok.ensures (not-false _ c.before.if2.false) c.zero-part.ensures
+returns-2 : tie.Need-returns-then-s-eq0
+returns-2 c = is_press _ c.if-s-eq0.true c.pressed_ok.ensures (not-false _ c.if-not-pressed_ok.false-raw) c.zero_part.ensures
 
-shared-slice-read-if3 : tie.Need-shared-slice-read-if3
+shared-slice-read-if3 : tie.Need-bounds-s-0-2
 shared-slice-read-if3 c = search rules
 
-returns-3 : tie.Need-returns-3
-returns-3 c = no_wait _ c.before.before.if1.false c.if3.true
+returns-3 : tie.Need-returns-then-s-ne1
+returns-3 c = no_wait _ c.if-s-eq0.false c.if-s-ne1.true
 
-shared-slice-read-if4 : tie.Need-shared-slice-read-if4
+shared-slice-read-if4 : tie.Need-bounds-s-1
 shared-slice-read-if4 c = search rules
 
-sub-info-ok : tie.Need-overflow-sub-info-ok
+sub-info-ok : tie.Need-slice_bounds-info_ok-count
 sub-info-ok c = search rules
 
-part-info-ok-start : tie.Need-slice-bounds-info-ok-start
+part-info-ok-start : tie.Need-slice_bounds-info_ok-start
 part-info-ok-start c = search rules
 
-part-info-ok-end : tie.Need-slice-bounds-info-ok-end
+part-info-ok-end : tie.Need-slice_bounds-info_ok-end
 part-info-ok-end c = search rules
 
-info-ok-requires : tie.Need-info-ok-requires
+info-ok-requires : tie.Need-info_ok-requires
 info-ok-requires c κs = search rules
 
-returns-4 : tie.Need-returns-4
-returns-4 c = is_release _ c.before.before.before.before.if3.false c.before.before.if4.true c.info-ok.ensures
+returns-4 : tie.Need-returns-then-s-eq0-2
+returns-4 c = is_release _ c.if-s-ne1.false c.if-s-eq0-2.true c.info_ok.ensures
 
-shared-slice-read-if5 : tie.Need-shared-slice-read-if5
+shared-slice-read-if5 : tie.Need-bounds-s-1-2
 shared-slice-read-if5 c = search rules
 
-returns-5 : tie.Need-returns-5
-returns-5 c = no_behind _ c.before.before.before.before.if3.false c.before.before.if4.false c.if5.true
+returns-5 : tie.Need-returns-then-s-ne1-2
+returns-5 c = no_behind _ c.if-s-ne1.false c.if-s-eq0-2.false c.if-s-ne1-2.true
 
-zero-part-requires-2 : tie.Need-zero-part-requires-2
+zero-part-requires-2 : tie.Need-zero_part-requires-2
 zero-part-requires-2 c κs = search rules
 
-returns-6 : tie.Need-returns-6
+returns-6 : tie.Need-returns
 returns-6 c =
-    let second = c.before in
-    let first = second.before.before.before.before in
-    is-character _ first.if3.false second.if5.false c.zero-part2.ensures
+    is-character _ c.if-s-ne1.false c.if-s-ne1-2.false c.zero_part-2.ensures
 
-pub wait-ok-spec : {M : Type 1} → statement M
-wait-ok-spec =
+pub wait_ok_spec : {M : Type 1} → statement M
+wait_ok_spec =
     tie.close
     (tie.spec
     shared-slice-read-if1

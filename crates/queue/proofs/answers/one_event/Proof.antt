@@ -9,11 +9,14 @@ use Rattle.queue.proofs.answers.one_event.Tie as tie
 close-requires : tie.Need-close-requires
 close-requires c κs = search rules
 
-same_length : tie.Need-same-length
+same_length : tie.Need-shape_of-answers
 same_length c = search rules
 
 returns : tie.Need-returns
-returns c e y fits size put = ended-one e y fits size put c.before.before.close.ensures refl refl
+returns c e y fits size put = ended-one e y fits size put c.close.ensures refl refl
 
-pub one-event-spec : {M : Type 1} → statement M
-one-event-spec = tie.close (tie.spec close-requires same_length returns)
+pub one_event_spec : {M : Type 1} → statement M
+one_event_spec = tie.close (tie.spec
+    close-requires
+    same_length
+    returns)

@@ -12,65 +12,52 @@ use Rattle.queue.proofs.event_queue.Draining.{Drained, one_most, drained_start, 
 use Rattle.queue.proofs.event_queue.drain_pending.Statement.{statement}
 use Rattle.queue.proofs.event_queue.drain_pending.Tie as tie
 
-abbrev invariant-loop : tie.invariant-loop
+abbrev invariant-loop : tie.invariant-loop-i
 invariant-loop area first answers₀ written n at₀ i₀ answers at i =
     (i ≤ n) × (at ≤ i) × (length answers ≡ length answers₀) × Drained (decode area).entries first written answers₀ answers at i
 
-abbrev decreases-loop : tie.decreases-loop
+abbrev decreases-loop : tie.decreases-loop-i
 decreases-loop area first answers₀ written n at₀ i₀ answers at i = n - i
 
-header-at-requires : tie.Need-header-at-requires invariant-loop decreases-loop
-header-at-requires c κs = omega (arith, c.before.before.requires.0.size)
+header-at-requires : tie.Need-header_at-h-requires invariant-loop decreases-loop
+header-at-requires c κs = omega (arith, c.requires.0.size)
 
-cast-n : tie.Need-overflow-cast-n invariant-loop decreases-loop
+cast-n : tie.Need-overflow_cast-n invariant-loop decreases-loop
 cast-n c = search rules
 
-loop-holds : tie.Need-loop-init invariant-loop decreases-loop
+loop-holds : tie.Need-loop-i-init invariant-loop decreases-loop
 loop-holds c =
-    let head = c.before in
-    let start = head.before.before.before in
-    let a = start.args in
-    (omega (arith, head.header_at.ensures.2, start.requires.2), start.requires.3, refl, drained_start (decode a.session.now).entries a.first a.written a.answers.now)
+    let a = c.args in
+    (omega (arith, c.header_at-h.ensures.2, c.requires.2), c.requires.3, refl, drained_start (decode a.session.now).entries a.first a.written a.answers.now)
 
-drain-one-requires : tie.Need-drain-one-requires invariant-loop decreases-loop
+drain-one-requires : tie.Need-drain_one-at-requires invariant-loop decreases-loop
 drain-one-requires c κs =
-    let loop = c.before.before in
-    let head = loop.before.before in
-    let start = head.before.before.before in
-    (start.requires.0, omega (arith, start.requires.1, loop.loop.invariant.2), omega (arith, c.before.loop-test.true, head.header_at.ensures.2), loop.loop.invariant.1)
+    (c.requires.0, omega (arith, c.requires.1, c.loop-i.invariant.2), omega (arith, c.loop-i-test.true, c.header_at-h.ensures.2), c.loop-i.invariant.1)
 
-add-i : tie.Need-overflow-add-i invariant-loop decreases-loop
+add-i : tie.Need-overflow_add-i invariant-loop decreases-loop
 add-i c = omega arith
 
-loop-less : tie.Need-loop-smaller invariant-loop decreases-loop
+loop-less : tie.Need-loop-i-smaller invariant-loop decreases-loop
 loop-less c = omega arith
 
-loop-again : tie.Need-loop-preserved invariant-loop decreases-loop
+loop-again : tie.Need-loop-i-preserved invariant-loop decreases-loop
 loop-again c =
-    let put = c.before.before in
-    let loop = put.before.before.before in
-    let head = loop.before.before in
-    let known = head.before.before in
-    let start = known.before in
-    let a = start.args in
+    let a = c.args in
     let es = (decode a.session.now).entries in
-    let fit = each a.session.now (λ i. omega (arith, known.shared-slice-known.given i)) start.requires.0 in
-    let next = drained_next es a.first a.written a.answers.now loop.loop.invariant.3 fit put.drain-one.ensures in
-    (omega arith, omega (arith, put.drain-one.ensures.count, one_most loop.loop.i es), drained_size es a.first a.written a.answers.now next, next)
+    let fit = each a.session.now (λ i. omega (arith, c.shared_slice_known-1.given i)) c.requires.0 in
+    let next = drained_next es a.first a.written a.answers.now c.loop-i.invariant.3 fit c.drain_one-at.ensures in
+    (omega arith, omega (arith, c.drain_one-at.ensures.count, one_most c.loop-i.i es), drained_size es a.first a.written a.answers.now next, next)
 
-same_length : tie.Need-same-length invariant-loop decreases-loop
-same_length c = omega (arith, c.before.loop.invariant.2)
+same_length : tie.Need-shape_of-answers invariant-loop decreases-loop
+same_length c = omega (arith, c.loop-i.invariant.2)
 
 returns : tie.Need-returns invariant-loop decreases-loop
 returns c =
-    let loop = c.before in
-    let head = loop.before.before in
-    let start = head.before.before.before in
-    let a = start.args in
-    drained_end (decode a.session.now).entries a.first a.written a.answers.now loop.loop.invariant.3 (omega (arith, c.loop-test.false, head.header_at.ensures.2))
+    let a = c.args in
+    drained_end (decode a.session.now).entries a.first a.written a.answers.now c.loop-i.invariant.3 (omega (arith, c.loop-i-test.false, c.header_at-h.ensures.2))
 
-pub drain-pending-spec : {M : Type 1} → statement M
-drain-pending-spec =
+pub drain_pending_spec : {M : Type 1} → statement M
+drain_pending_spec =
     tie.close
     (tie.spec
     invariant-loop

@@ -11,55 +11,47 @@ use Rattle.queue.proofs.held_event.EventParts.{stands_as}
 use Rattle.queue.proofs.held_event.put_kept_key.Statement.{statement}
 use Rattle.queue.proofs.held_event.put_kept_key.Tie as tie
 
-add-copy-key : tie.Need-overflow-add-copy-key
+add-copy-key : tie.Need-overflow_add-copy_key
 add-copy-key c = search rules
 
-copy-key-requires : tie.Need-copy-key-requires
+copy-key-requires : tie.Need-copy_key-requires
 copy-key-requires c κs =
-    let start = c.before.before.before.before.before in
-    (search rules, key-ok start.args.session.now start.requires.ok, search rules)
+    (search rules, key-ok c.args.session.now c.requires.ok, search rules)
 
-same_length : tie.Need-same-length
+same_length : tie.Need-shape_of-session-then-place-eq0
 same_length c = search rules
 
-same-length-2 : tie.Need-same-length-2
+same-length-2 : tie.Need-shape_of-answers-then-place-eq0
 same-length-2 c = search rules
 
-returns : tie.Need-returns
+returns : tie.Need-returns-then-place-eq0
 returns c =
-    let put = c.before.before in
-    let first = put.before.before.before in
-    let start = first.before.before.before in
-    stands_as _ 6 (ap (full_key TEXT_MOST).put (key_in start.args.session.now))
-    (stands-first _ 6 _ _ _ first.if1.true put.copy_key.ensures refl)
+    stands_as _ 6 (ap (full_key TEXT_MOST).put (key_in c.args.session.now))
+    (stands-first _ 6 _ _ _ c.if-place-eq0.true c.copy_key.ensures refl)
 
-event-at-requires : tie.Need-event-at-requires
+event-at-requires : tie.Need-event_at-requires
 event-at-requires c κs = search rules
 
-add-gap : tie.Need-overflow-add-gap
+add-gap : tie.Need-overflow_add-gap
 add-gap c = search rules
 
-sub-gap : tie.Need-overflow-sub-gap
+sub-gap : tie.Need-overflow_sub-gap
 sub-gap c = search rules
 
-move-key-requires : tie.Need-move-key-requires
+move-key-requires : tie.Need-move_key-requires
 move-key-requires c κs =
-    let start = c.before.before.before.before.before in
-    (search rules, key-ok start.args.session.now start.requires.ok)
+    (search rules, key-ok c.args.session.now c.requires.ok)
 
-same-length-3 : tie.Need-same-length-3
+same-length-3 : tie.Need-shape_of-session
 same-length-3 c = search rules
 
-returns-2 : tie.Need-returns-2
+returns-2 : tie.Need-returns
 returns-2 c =
-    let put = c.before.before in
-    let later = put.before.before.before in
-    let start = later.before.before.before in
-    stands_as _ 6 (ap (full_key TEXT_MOST).put (key_in start.args.session.now))
-    (stands-later _ 6 _ _ _ (λ i. omega (arith, later.if1.false)) put.move-key.ensures (omega arith))
+    stands_as _ 6 (ap (full_key TEXT_MOST).put (key_in c.args.session.now))
+    (stands-later _ 6 _ _ _ (λ i. omega (arith, c.if-place-eq0.false)) c.move_key.ensures (omega arith))
 
-pub put-kept-key-spec : {M : Type 1} → statement M
-put-kept-key-spec =
+pub put_kept_key_spec : {M : Type 1} → statement M
+put_kept_key_spec =
     tie.close
     (tie.spec
     add-copy-key

@@ -13,46 +13,40 @@ use Rattle.queue.proofs.held_event.EventParts.{known_held, known_not, stands_as}
 use Rattle.queue.proofs.held_event.put_known_key.Statement.{statement}
 use Rattle.queue.proofs.held_event.put_known_key.Tie as tie
 
-put-kept-key-requires : tie.Need-put-kept-key-requires
+put-kept-key-requires : tie.Need-put_kept_key-requires
 put-kept-key-requires c κs = search rules
 
-same_length : tie.Need-same-length
+same_length : tie.Need-shape_of-session-then-known
 same_length c = search rules
 
-same-length-2 : tie.Need-same-length-2
+same-length-2 : tie.Need-shape_of-answers-then-known
 same-length-2 c = search rules
 
-returns : tie.Need-returns
+returns : tie.Need-returns-then-known
 returns c =
-    let put = c.before.before.before.before in
-    let then = put.before.before.before in
-    stands_as _ 6 (known_held _ _ then.if1.true) put.put-kept-key.ensures
+    stands_as _ 6 (known_held _ _ c.if-known.true) c.put_kept_key.ensures
 
-get-u16-requires : tie.Need-get-u16-requires
+get-u16-requires : tie.Need-get_u16-scancode-requires
 get-u16-requires c κs = search rules
 
-put-unidentified-requires : tie.Need-put-unidentified-requires
+put-unidentified-requires : tie.Need-put_unidentified-requires
 put-unidentified-requires c κs = search rules
 
-same-length-3 : tie.Need-same-length-3
+same-length-3 : tie.Need-shape_of-session
 same-length-3 c = search rules
 
-same-length-4 : tie.Need-same-length-4
+same-length-4 : tie.Need-shape_of-answers
 same-length-4 c = search rules
 
-returns-2 : tie.Need-returns-2
+returns-2 : tie.Need-returns
 returns-2 c =
-    let put = c.before.before.before.before in
-    let got = put.before.before.before in
-    let rest = got.before.before in
-    let start = rest.before.before.before in
-    let x = start.args.session.now in
+    let x = c.args.session.now in
     stands_as _ 6
-    (ap (λ (n : ℕ). (full_key TEXT_MOST).put (unidentified (Windows n))) (got.get-u16.ensures ∙ scancode_in x) ∙ known_not (held_in x).info.logical_key _ rest.if1.false)
-    put.put-unidentified.ensures
+    (ap (λ (n : ℕ). (full_key TEXT_MOST).put (unidentified (Windows n))) (c.get_u16-scancode.ensures ∙ scancode_in x) ∙ known_not (held_in x).info.logical_key _ c.if-known.false)
+    c.put_unidentified.ensures
 
-pub put-known-key-spec : {M : Type 1} → statement M
-put-known-key-spec =
+pub put_known_key_spec : {M : Type 1} → statement M
+put_known_key_spec =
     tie.close
     (tie.spec
     put-kept-key-requires

@@ -9,33 +9,29 @@ use Rattle.queue.proofs.held_event.EventParts.{stands_as}
 use Rattle.queue.proofs.held_event.put_last_code.Statement.{statement}
 use Rattle.queue.proofs.held_event.put_last_code.Tie as tie
 
-get-u16-requires : tie.Need-get-u16-requires
+get-u16-requires : tie.Need-get_u16-scancode-requires
 get-u16-requires c κs = search rules
 
-keycode-from-scancode-requires : tie.Need-keycode-from-scancode-requires
+keycode-from-scancode-requires : tie.Need-keycode_from_scancode-code-requires
 keycode-from-scancode-requires c κs = search rules
 
-put-code-requires : tie.Need-put-code-requires
+put-code-requires : tie.Need-put_code-requires
 put-code-requires c κs = search rules
 
-same_length : tie.Need-same-length
+same_length : tie.Need-shape_of-session
 same_length c = search rules
 
-same-length-2 : tie.Need-same-length-2
+same-length-2 : tie.Need-shape_of-answers
 same-length-2 c = search rules
 
 returns : tie.Need-returns
 returns c =
-    let put = c.before.before.before.before in
-    let code = put.before.before.before in
-    let got = code.before in
-    let start = got.before.before.before.before in
     stands_as _ 0
-    (ap key_code.put (code.keycode-from-scancode.ensures ∙ ap key_code_of (got.get-u16.ensures ∙ scancode_in start.args.session.now)))
-    put.put-code.ensures
+    (ap key_code.put (c.keycode_from_scancode-code.ensures ∙ ap key_code_of (c.get_u16-scancode.ensures ∙ scancode_in c.args.session.now)))
+    c.put_code.ensures
 
-pub put-last-code-spec : {M : Type 1} → statement M
-put-last-code-spec =
+pub put_last_code_spec : {M : Type 1} → statement M
+put_last_code_spec =
     tie.close
     (tie.spec
     get-u16-requires

@@ -7,41 +7,37 @@ use Rattle.queue.proofs.Standing.{stands-first, stands-later}
 use Rattle.queue.proofs.held_event.put_layout_text.Statement.{statement}
 use Rattle.queue.proofs.held_event.put_layout_text.Tie as tie
 
-add-put-text : tie.Need-overflow-add-put-text
+add-put-text : tie.Need-overflow_add-off
 add-put-text c = search rules
 
-put-text-requires : tie.Need-put-text-requires
+put-text-requires : tie.Need-put_text-requires
 put-text-requires c κs = search rules
 
-same_length : tie.Need-same-length
+same_length : tie.Need-shape_of-answers-then-place-eq0
 same_length c = search rules
 
-returns : tie.Need-returns
+returns : tie.Need-returns-then-place-eq0
 returns c =
-    let put = c.before.before in
-    let first = put.before.before in
-    stands-first _ _ _ _ _ first.if1.true put.put-text.ensures refl
+    stands-first _ _ _ _ _ c.if-place-eq0.true c.put_text.ensures refl
 
-event-at-requires : tie.Need-event-at-requires
+event-at-requires : tie.Need-event_at-requires
 event-at-requires c κs = search rules
 
-add-put-text-2 : tie.Need-overflow-add-put-text-2
+add-put-text-2 : tie.Need-overflow_add-event_at
 add-put-text-2 c = search rules
 
-put-text-requires-2 : tie.Need-put-text-requires-2
+put-text-requires-2 : tie.Need-put_text-requires-2
 put-text-requires-2 c κs = search rules
 
-same-length-2 : tie.Need-same-length-2
+same-length-2 : tie.Need-shape_of-session
 same-length-2 c = search rules
 
-returns-2 : tie.Need-returns-2
+returns-2 : tie.Need-returns
 returns-2 c =
-    let put = c.before.before in
-    let later = put.before.before.before in
-    stands-later _ _ _ _ _ (λ i. omega (arith, later.if1.false)) put.put-text2.ensures (omega arith)
+    stands-later _ _ _ _ _ (λ i. omega (arith, c.if-place-eq0.false)) c.put_text-2.ensures (omega arith)
 
-pub put-layout-text-spec : {M : Type 1} → statement M
-put-layout-text-spec =
+pub put_layout_text_spec : {M : Type 1} → statement M
+put_layout_text_spec =
     tie.close
     (tie.spec
     add-put-text

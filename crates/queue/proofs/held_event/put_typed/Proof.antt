@@ -13,52 +13,44 @@ use Rattle.queue.proofs.held_event.EventParts.{stands_as}
 use Rattle.queue.proofs.held_event.put_typed.Statement.{statement}
 use Rattle.queue.proofs.held_event.put_typed.Tie as tie
 
-add-put-typed : tie.Need-overflow-add-put-typed
+add-put-typed : tie.Need-overflow_add-off
 add-put-typed c = search rules
 
-put-typed-requires : tie.Need-put-typed-requires
+put-typed-requires : tie.Need-put_typed-requires
 put-typed-requires c κs =
-    let start = c.before.before.before.before.before in
-    (search rules, units-ok start.args.session.now start.requires.0.ok, search rules)
+    (search rules, units-ok c.args.session.now c.requires.0.ok, search rules)
 
-same_length : tie.Need-same-length
+same_length : tie.Need-shape_of-session-then-place-eq0
 same_length c = search rules
 
-same-length-2 : tie.Need-same-length-2
+same-length-2 : tie.Need-shape_of-answers-then-place-eq0
 same-length-2 c = search rules
 
-returns : tie.Need-returns
+returns : tie.Need-returns-then-place-eq0
 returns c =
-    let put = c.before.before in
-    let first = put.before.before.before in
-    let start = first.before.before.before in
-    stands_as _ _ (ap (λ (us : List ℕ). opt_text.put (typed_text us)) (units_in start.args.session.now))
-    (stands-first _ _ _ _ _ first.if1.true put.put_Typed.ensures refl)
+    stands_as _ _ (ap (λ (us : List ℕ). opt_text.put (typed_text us)) (units_in c.args.session.now))
+    (stands-first _ _ _ _ _ c.if-place-eq0.true c.put_typed.ensures refl)
 
-event-at-requires : tie.Need-event-at-requires
+event-at-requires : tie.Need-event_at-requires
 event-at-requires c κs = search rules
 
-add-put-typed-within : tie.Need-overflow-add-put-typed-within
+add-put-typed-within : tie.Need-overflow_add-event_at
 add-put-typed-within c = search rules
 
-put-typed-within-requires : tie.Need-put-typed-within-requires
+put-typed-within-requires : tie.Need-put_typed_within-requires
 put-typed-within-requires c κs =
-    let start = c.before.before.before.before.before in
-    (search rules, units-ok start.args.session.now start.requires.0.ok, search rules)
+    (search rules, units-ok c.args.session.now c.requires.0.ok, search rules)
 
-same-length-3 : tie.Need-same-length-3
+same-length-3 : tie.Need-shape_of-session
 same-length-3 c = search rules
 
-returns-2 : tie.Need-returns-2
+returns-2 : tie.Need-returns
 returns-2 c =
-    let put = c.before.before in
-    let later = put.before.before.before in
-    let start = later.before.before.before in
-    stands_as _ _ (ap (λ (us : List ℕ). opt_text.put (typed_text us)) (units_in start.args.session.now))
-    (stands-later _ _ _ _ _ (λ i. omega (arith, later.if1.false)) put.put-typed-within.ensures (omega arith))
+    stands_as _ _ (ap (λ (us : List ℕ). opt_text.put (typed_text us)) (units_in c.args.session.now))
+    (stands-later _ _ _ _ _ (λ i. omega (arith, c.if-place-eq0.false)) c.put_typed_within.ensures (omega arith))
 
-pub put-typed-spec : {M : Type 1} → statement M
-put-typed-spec =
+pub put_typed_spec : {M : Type 1} → statement M
+put_typed_spec =
     tie.close
     (tie.spec
     add-put-typed

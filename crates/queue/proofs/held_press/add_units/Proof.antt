@@ -8,19 +8,19 @@ use Rattle.queue.proofs.HeldPress.{units_added}
 use Rattle.queue.proofs.held_press.add_units.Statement.{statement}
 use Rattle.queue.proofs.held_press.add_units.Tie as tie
 
-add-units-requires : tie.Need-add-units-requires
+add-units-requires : tie.Need-add_units-requires
 add-units-requires c κs =
-    let p = c.before.before.requires in (omega (arith, p.0.size), held-ok _ p.1 p.0.passed, p.2)
+    let p = c.requires in (omega (arith, p.0.size), held-ok _ p.1 p.0.passed, p.2)
 
-same_length : tie.Need-same-length
+same_length : tie.Need-shape_of-session
 same_length c = search rules
 
 returns : tie.Need-returns
 returns c =
-    let put = c.before.before in
-    let known = put.before.before in
-    let start = known.before in
-    units_added start.args.session.now (λ i. omega (arith, known.slice-known.given i)) start.requires.0 start.requires.1 start.args.wparam start.requires.2 put.add-units.ensures refl
+    units_added c.args.session.now (λ i. omega (arith, c.slice_known-1.given i)) c.requires.0 c.requires.1 c.args.wparam c.requires.2 c.add_units.ensures refl
 
-pub add-units-spec : {M : Type 1} → statement M
-add-units-spec = tie.close (tie.spec add-units-requires same_length returns)
+pub add_units_spec : {M : Type 1} → statement M
+add_units_spec = tie.close (tie.spec
+    add-units-requires
+    same_length
+    returns)

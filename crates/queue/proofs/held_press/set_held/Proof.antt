@@ -8,18 +8,18 @@ use Rattle.queue.proofs.HeldPress.{set_fits, held-set}
 use Rattle.queue.proofs.held_press.set_held.Statement.{statement}
 use Rattle.queue.proofs.held_press.set_held.Tie as tie
 
-put-held-requires : tie.Need-put-held-requires
+put-held-requires : tie.Need-put_held-requires
 put-held-requires c κs = search rules
 
-same_length : tie.Need-same-length
+same_length : tie.Need-shape_of-session
 same_length c = search rules
 
 returns : tie.Need-returns
 returns c =
-    let put = c.before.before in
-    let known = put.before.before.before in
-    let start = known.before in
-    held-set start.args.session.now (λ i. omega (arith, known.slice-known.given i)) start.requires.0 (some _) (set_fits _ refl start.requires.2) put.put-held.ensures refl
+    held-set c.args.session.now (λ i. omega (arith, c.slice_known-1.given i)) c.requires.0 (some _) (set_fits _ refl c.requires.2) c.put_held.ensures refl
 
-pub set-held-spec : {M : Type 1} → statement M
-set-held-spec = tie.close (tie.spec put-held-requires same_length returns)
+pub set_held_spec : {M : Type 1} → statement M
+set_held_spec = tie.close (tie.spec
+    put-held-requires
+    same_length
+    returns)

@@ -8,36 +8,32 @@ use Rattle.queue.proofs.pending.NewEntry.{opened, press_fits}
 use Rattle.queue.proofs.pending.add_press.Statement.{statement}
 use Rattle.queue.proofs.pending.add_press.Tie as tie
 
-header-at-requires : tie.Need-header-at-requires
+header-at-requires : tie.Need-header_at-h-requires
 header-at-requires c κs = search rules
 
-cast-t8 : tie.Need-overflow-cast-t8
+cast-t8 : tie.Need-overflow_cast-token
 cast-t8 c = search rules
 
-next-place-requires : tie.Need-next-place-requires
+next-place-requires : tie.Need-next_place-requires
 next-place-requires c κs = search rules
 
-put-press-requires : tie.Need-put-press-requires
+put-press-requires : tie.Need-put_press-requires
 put-press-requires c κs = search rules
 
-count-one-requires : tie.Need-count-one-requires
+count-one-requires : tie.Need-count_one-requires
 count-one-requires c κs = search rules
 
-same_length : tie.Need-same-length
+same_length : tie.Need-shape_of-session
 same_length c = search rules
 
 returns : tie.Need-returns
 returns c =
-    let counted = c.before.before in
-    let put = counted.before.before.before.before in
-    let head = put.before.before.before.before in
-    let start = head.before.before.before in
-    let a = start.args in
-    opened a.session.now (λ i. omega (arith, head.before.before.slice-known.given i)) start.requires (press a.vkey a.l) (press_fits a.vkey a.l (omega (arith, start.ranges.vkey)) (omega (arith, start.well-formed))) put.put-press.ensures counted.count-one.ensures
-    head.header_at.ensures.2 head.header_at.ensures.0 put.before.next_place.ensures refl refl
+    let a = c.args in
+    opened a.session.now (λ i. omega (arith, c.slice_known-1.given i)) c.requires (press a.vkey a.l) (press_fits a.vkey a.l (omega (arith, c.ranges.vkey)) (omega (arith, c.well-formed))) c.put_press.ensures c.count_one.ensures
+    c.header_at-h.ensures.2 c.header_at-h.ensures.0 c.next_place.ensures refl refl
 
-pub add-press-spec : {M : Type 1} → statement M
-add-press-spec =
+pub add_press_spec : {M : Type 1} → statement M
+add_press_spec =
     tie.close
     (tie.spec
     header-at-requires

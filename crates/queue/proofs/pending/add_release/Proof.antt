@@ -9,36 +9,32 @@ use Rattle.queue.proofs.pending.NewEntry.{opened, release_fits}
 use Rattle.queue.proofs.pending.add_release.Statement.{statement}
 use Rattle.queue.proofs.pending.add_release.Tie as tie
 
-header-at-requires : tie.Need-header-at-requires
+header-at-requires : tie.Need-header_at-h-requires
 header-at-requires c κs = search rules
 
-cast-t8 : tie.Need-overflow-cast-t8
+cast-t8 : tie.Need-overflow_cast-token
 cast-t8 c = search rules
 
-next-place-requires : tie.Need-next-place-requires
+next-place-requires : tie.Need-next_place-requires
 next-place-requires c κs = search rules
 
-put-release-requires : tie.Need-put-release-requires
+put-release-requires : tie.Need-put_release-requires
 put-release-requires c κs = search rules
 
-count-one-requires : tie.Need-count-one-requires
+count-one-requires : tie.Need-count_one-requires
 count-one-requires c κs = search rules
 
-same_length : tie.Need-same-length
+same_length : tie.Need-shape_of-session
 same_length c = search rules
 
 returns : tie.Need-returns
 returns c =
-    let counted = c.before.before in
-    let put = counted.before.before.before.before in
-    let head = put.before.before.before.before in
-    let start = head.before.before.before.before in
-    let a = start.args in
-    opened a.session.now (λ i. omega (arith, head.before.before.before.slice-known.given i)) start.requires.0 (release (info_in a.block.now a.n)) (release_fits (info_in a.block.now a.n) start.requires.2) put.put-release.ensures counted.count-one.ensures
-    head.header_at.ensures.2 head.header_at.ensures.0 put.before.next_place.ensures refl refl
+    let a = c.args in
+    opened a.session.now (λ i. omega (arith, c.slice_known-1.given i)) c.requires.0 (release (info_in a.block.now a.n)) (release_fits (info_in a.block.now a.n) c.requires.2) c.put_release.ensures c.count_one.ensures
+    c.header_at-h.ensures.2 c.header_at-h.ensures.0 c.next_place.ensures refl refl
 
-pub add-release-spec : {M : Type 1} → statement M
-add-release-spec =
+pub add_release_spec : {M : Type 1} → statement M
+add_release_spec =
     tie.close
     (tie.spec
     header-at-requires

@@ -10,32 +10,37 @@ use Rattle.queue.proofs.pending.EntryLoops.{counted}
 use Rattle.queue.proofs.pending.open_count.Statement.{statement}
 use Rattle.queue.proofs.pending.open_count.Tie as tie
 
-header-at-requires : tie.Need-header-at-requires
+header-at-requires : tie.Need-header_at-h-requires
 header-at-requires c κs = search rules
 
-sub-open-count : tie.Need-overflow-sub-open-count
+sub-open-count : tie.Need-slice_bounds-open_count-count
 sub-open-count c = search rules
 
-part-open-count-start : tie.Need-slice-bounds-open-count-start
+part-open-count-start : tie.Need-slice_bounds-open_count-start
 part-open-count-start c = search rules
 
-part-open-count-end : tie.Need-slice-bounds-open-count-end
+part-open-count-end : tie.Need-slice_bounds-open_count-end
 part-open-count-end c = search rules
 
-cast-open-count : tie.Need-overflow-cast-open-count
+cast-open-count : tie.Need-overflow_cast-h
 cast-open-count c = search rules
 
-open-count-requires : tie.Need-open-count-requires
+open-count-requires : tie.Need-open_count-requires
 open-count-requires c κs =
-    let known = c.before.before.before in
-    let start = known.before in
-    let m = count_most start.args.session.now (λ i. omega (arith, known.shared-slice-known.given i)) start.requires in
+    let m = count_most c.args.session.now (λ i. omega (arith, c.shared_slice_known-1.given i)) c.requires in
     (omega arith, rw (part_rest, length-drop) (omega arith))
 
 returns : tie.Need-returns
-returns c = let head = c.before.before.before in counted head.before.before.args.session.now c.open-count.ensures (omega (arith, head.header_at.ensures.2)) refl
+returns c = counted c.args.session.now c.open_count.ensures (omega (arith, c.header_at-h.ensures.2)) refl
 
-pub open-count-spec : {M : Type 1} → statement M
-open-count-spec =
+pub open_count_spec : {M : Type 1} → statement M
+open_count_spec =
     tie.close
-    (tie.spec header-at-requires sub-open-count part-open-count-start part-open-count-end cast-open-count open-count-requires returns)
+    (tie.spec
+    header-at-requires
+    sub-open-count
+    part-open-count-start
+    part-open-count-end
+    cast-open-count
+    open-count-requires
+    returns)

@@ -9,33 +9,29 @@ use Rattle.record.proofs.complete.Keys.{key-moved}
 use Rattle.record.proofs.complete.copy_key.Statement.{statement}
 use Rattle.record.proofs.complete.copy_key.Tie as tie
 
-copy-part-requires : tie.Need-copy-part-requires
+copy-part-requires : tie.Need-copy_part-requires
 copy-part-requires c κs = search rules
 
-add-put-zeros : tie.Need-overflow-add-put-zeros
+add-put-zeros : tie.Need-overflow_add-to
 add-put-zeros c = search rules
 
-put-zeros-requires : tie.Need-put-zeros-requires
+put-zeros-requires : tie.Need-put_zeros-requires
 put-zeros-requires c κs = search rules
 
-same_length : tie.Need-same-length
+same_length : tie.Need-shape_of-dst
 same_length c = search rules
 
-bytes-in : (c : tie.After-shared-slice-known) (i : ℕ) → get_or c.before.args.src.now i 0 < 256
-bytes-in c i = omega (arith, c.shared-slice-known.given i)
+bytes-in : (c : tie.After-shared_slice_known-1) (i : ℕ) → get_or c.args.src.now i 0 < 256
+bytes-in c i = omega (arith, c.shared_slice_known-1.given i)
 
 returns : tie.Need-returns
 returns c =
-    let zeros = c.before.before in
-    let copy = zeros.before.before.before.before in
-    let known = copy.before.before.before in
-    let start = known.before in
-    let a = start.args in
-    key-moved a.src.now (bytes-in known) a.from start.requires.0 start.requires.1 a.to a.dst.now copy.copy-part.ensures
-    zeros.put-zeros.ensures refl refl
+    let a = c.args in
+    key-moved a.src.now (bytes-in c.before.before.before.before.before.before.before.before.before) a.from c.requires.0 c.requires.1 a.to a.dst.now c.copy_part.ensures
+    c.put_zeros.ensures refl refl
 
-pub copy-key-spec : {M : Type 1} → statement M
-copy-key-spec =
+pub copy_key_spec : {M : Type 1} → statement M
+copy_key_spec =
     tie.close
     (tie.spec
     copy-part-requires

@@ -10,27 +10,28 @@ use Rattle.record.proofs.layout.Keys.{fits_within, its_own, with_own, key_as}
 use Rattle.record.proofs.layout.put_key.Statement.{statement}
 use Rattle.record.proofs.layout.put_key.Tie as tie
 
-own-part-requires : tie.Need-own-part-requires
+own-part-requires : tie.Need-own_part-requires
 own-part-requires c κs = search rules
 
-put-with-requires : tie.Need-put-with-requires
+put-with-requires : tie.Need-put_with-requires
 put-with-requires c κs =
-    let start = c.before.before.before.before in
-    let a = start.args in
-    let e = c.own-part.ensures in
+    let a = c.args in
+    let e = c.own_part.ensures in
     let p = part_of a.block.now a.k in
-    let w = fits_within (full a.k.key p) start.requires.3 in
+    let w = fits_within (full a.k.key p) c.requires.3 in
     (search rules, omega (arith, ap length e), search rules, its_own a.k.key p e)
 
-same_length : tie.Need-same-length
+same_length : tie.Need-shape_of-s
 same_length c = search rules
 
 returns : tie.Need-returns
 returns c =
-    let put = c.before.before in
-    let own = put.before in
-    let a = own.before.before.before.before.args in
-    key_as a.most a.at a.s.now (with_own a.k.key (part_of a.block.now a.k) own.own-part.ensures) put.put-with.ensures
+    let a = c.args in
+    key_as a.most a.at a.s.now (with_own a.k.key (part_of a.block.now a.k) c.own_part.ensures) c.put_with.ensures
 
-pub put-key-spec : {M : Type 1} → statement M
-put-key-spec = tie.close (tie.spec own-part-requires put-with-requires same_length returns)
+pub put_key_spec : {M : Type 1} → statement M
+put_key_spec = tie.close (tie.spec
+    own-part-requires
+    put-with-requires
+    same_length
+    returns)

@@ -9,88 +9,80 @@ use Rattle.record.proofs.layout.Texts.{own_within, text-given}
 use Rattle.record.proofs.layout.put_text.Statement.{statement}
 use Rattle.record.proofs.layout.put_text.Tie as tie
 
-enum_told : tie.Need-enum-told
+enum_told : tie.Need-enum_told-1
 enum_told c = search rules
 
-sub-put-part : tie.Need-overflow-sub-put-part
+sub-put-part : tie.Need-slice_bounds-put_part-count
 sub-put-part c = search rules
 
-part-put-part-start : tie.Need-slice-bounds-put-part-start
+part-put-part-start : tie.Need-slice_bounds-put_part-start
 part-put-part-start c = search rules
 
-part-put-part-end : tie.Need-slice-bounds-put-part-end
+part-put-part-end : tie.Need-slice_bounds-put_part-end
 part-put-part-end c = search rules
 
-put-part-requires : tie.Need-put-part-requires
+put-part-requires : tie.Need-put_part-requires
 put-part-requires c κs = search rules
 
-enum-told-2 : tie.Need-enum-told-2
+enum-told-2 : tie.Need-enum_told-in-Own
 enum-told-2 c = search rules
 
-key-text-requires : tie.Need-key-text-requires
+key-text-requires : tie.Need-key_text-requires
 key-text-requires c κs = search rules
 
-put-part-requires-2 : tie.Need-put-part-requires-2
+put-part-requires-2 : tie.Need-put_part-requires-in-Own
 put-part-requires-2 c κs =
-    let start = c.before.before.before.before.before.before in
-    let a = start.args in
+    let a = c.args in
     let p = part_of a.block.now a.k in
-    (search rules, own_within p a.t start.requires.1 c.before.before.enum-told2.given.1 c.key-text.ensures, search rules)
+    (search rules, own_within p a.t c.requires.1 c.in-Own.is c.key_text.ensures, search rules)
 
-enum-known-t : tie.Need-enum-known-t
+enum-known-t : tie.Need-enum_known-t
 enum-known-t c = search rules
 
-sub-put-part-2 : tie.Need-overflow-sub-put-part-2
+sub-put-part-2 : tie.Need-slice_bounds-put_part-count-in-Byte
 sub-put-part-2 c = search rules
 
-part-put-part-start-2 : tie.Need-slice-bounds-put-part-start-2
+part-put-part-start-2 : tie.Need-slice_bounds-put_part-start-in-Byte
 part-put-part-start-2 c = search rules
 
-part-put-part-end-2 : tie.Need-slice-bounds-put-part-end-2
+part-put-part-end-2 : tie.Need-slice_bounds-put_part-end-in-Byte
 part-put-part-end-2 c = search rules
 
-put-part-requires-3 : tie.Need-put-part-requires-3
+put-part-requires-3 : tie.Need-put_part-requires-in-Byte
 put-part-requires-3 c κs = search rules
 
-same_length : tie.Need-same-length
+same_length : tie.Need-shape_of-s-in-Nothing
 same_length c = search rules
 
-returns : tie.Need-returns
+returns : tie.Need-returns-in-Nothing
 unfolding text_from
 returns c =
-    let put = c.before.before in
-    let told = put.before.before.before in
-    let a = told.before.before.before.before.args in
+    let a = c.args in
     let p = part_of a.block.now a.k in
-    text-given p a.t Nothing _ a.at a.s.now told.enum_told.given.1 refl put.put-part.ensures
+    text-given p a.t Nothing _ a.at a.s.now c.in-Nothing.is refl c.put_part.ensures
 
-same-length-2 : tie.Need-same-length-2
+same-length-2 : tie.Need-shape_of-s-in-Own
 same-length-2 c = search rules
 
-returns-2 : tie.Need-returns-2
+returns-2 : tie.Need-returns-in-Own
 unfolding text_from
 returns-2 c =
-    let put = c.before.before in
-    let own = put.before in
-    let told = own.before.before in
-    let a = told.before.before.before.before.args in
+    let a = c.args in
     let p = part_of a.block.now a.k in
-    text-given p a.t Own _ a.at a.s.now told.enum-told2.given.1 own.key-text.ensures put.put-part2.ensures
+    text-given p a.t Own _ a.at a.s.now c.in-Own.is c.key_text.ensures c.put_part-in-Own.ensures
 
-same-length-3 : tie.Need-same-length-3
+same-length-3 : tie.Need-shape_of-s-in-Byte
 same-length-3 c = search rules
 
-returns-3 : tie.Need-returns-3
+returns-3 : tie.Need-returns-in-Byte
 unfolding text_from
 returns-3 c =
-    let put = c.before.before in
-    let told = put.before.before.before.before.before in
-    let a = told.before.before.before.before.args in
+    let a = c.args in
     let p = part_of a.block.now a.k in
-    text-given p a.t (Byte _) _ a.at a.s.now told.t.given.1 refl put.put-part3.ensures
+    text-given p a.t (Byte _) _ a.at a.s.now c.in-Byte.is refl c.put_part-in-Byte.ensures
 
-pub put-text-spec : {M : Type 1} → statement M
-put-text-spec =
+pub put_text_spec : {M : Type 1} → statement M
+put_text_spec =
     tie.close
     (tie.spec
     enum_told

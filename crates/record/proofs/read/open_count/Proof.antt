@@ -7,45 +7,44 @@ use Rattle.record.proofs.read.Walk.{Opens, opens-start, opens-more, opens-same, 
 use Rattle.record.proofs.read.open_count.Statement.{statement}
 use Rattle.record.proofs.read.open_count.Tie as tie
 
-abbrev invariant-loop : tie.invariant-loop
+abbrev invariant-loop : tie.invariant-loop-i
 invariant-loop s n i₀ open₀ i «open» = Opens s n i «open»
 
-abbrev decreases-loop : tie.decreases-loop
+abbrev decreases-loop : tie.decreases-loop-i
 decreases-loop s n i₀ open₀ i «open» = n - i
 
-loop-holds : tie.Need-loop-init invariant-loop decreases-loop
+loop-holds : tie.Need-loop-i-init invariant-loop decreases-loop
 loop-holds c = opens-start _ _
 
-mul-if1 : tie.Need-overflow-mul-if1 invariant-loop decreases-loop
+mul-if1 : tie.Need-overflow_mul-i invariant-loop decreases-loop
 mul-if1 c = omega arith
 
-add-if1 : tie.Need-overflow-add-if1 invariant-loop decreases-loop
+add-if1 : tie.Need-overflow_add-i invariant-loop decreases-loop
 add-if1 c = omega arith
 
-shared-slice-read-if1 : tie.Need-shared-slice-read-if1 invariant-loop decreases-loop
+shared-slice-read-if1 : tie.Need-bounds-s-i invariant-loop decreases-loop
 shared-slice-read-if1 c = omega arith
 
-add_open : tie.Need-overflow-add-open invariant-loop decreases-loop
+add_open : tie.Need-overflow_add-open invariant-loop decreases-loop
 add_open c = omega arith
 
-add-i : tie.Need-overflow-add-i invariant-loop decreases-loop
+add-i : tie.Need-overflow_add-i-in-loop-i invariant-loop decreases-loop
 add-i c = omega arith
 
-loop-less : tie.Need-loop-smaller invariant-loop decreases-loop
+loop-less : tie.Need-loop-i-smaller invariant-loop decreases-loop
 loop-less c = omega arith
 
-loop-again : tie.Need-loop-preserved invariant-loop decreases-loop
+loop-again : tie.Need-loop-i-preserved invariant-loop decreases-loop
 loop-again c =
-    let test = c.before.before in
-    let inv = test.before.loop.invariant in
-    ⊎_elim (λ h. opens-more _ _ _ _ inv test.loop-test.true h.0.taken h.1)
-    (λ h. opens-same _ _ _ _ inv test.loop-test.true h.0.left h.1) c.if1.branch
+    let inv = c.loop-i.invariant in
+    ⊎_elim (λ h. opens-more _ _ _ _ inv c.loop-i-test.true h.0.taken h.1)
+    (λ h. opens-same _ _ _ _ inv c.loop-i-test.true h.0.left h.1) c.if-s-i-eq0.branch
 
 returns : tie.Need-returns invariant-loop decreases-loop
-returns c = opens_end _ _ _ _ c.before.loop.invariant c.loop-test.false
+returns c = opens_end _ _ _ _ c.loop-i.invariant c.loop-i-test.false
 
-pub open-count-spec : {M : Type 1} → statement M
-open-count-spec =
+pub open_count_spec : {M : Type 1} → statement M
+open_count_spec =
     tie.close
     (tie.spec
     invariant-loop

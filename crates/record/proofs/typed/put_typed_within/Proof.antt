@@ -11,67 +11,64 @@ use Rattle.record.proofs.typed.put_typed_within.Statement.{statement}
 use Rattle.record.proofs.typed.put_typed_within.Tie as tie
 
 -- from the text back to the start, and from the zeros back to the text
-abbrev begun : tie.After-put-text-within → tie.Start
+abbrev begun : tie.After-put_text_within-len → tie.Start
 begun c = c.before.before.before.before
 
-abbrev text : tie.After-put-zeros-arg → tie.After-put-text-within
+abbrev text : tie.After-put_zeros-arg-1 → tie.After-put_text_within-len
 text c = c.before.before.before
 
 few : (c : tie.Start) → get_or c.args.s.now c.args.from 0 ≤ UNITS_MOST
 few c = list_most c.args.from c.args.s.now c.requires.1
 
-short : (c : tie.After-put-text-within) → c.put-text-within.result ≤ TEXT_MOST
+short : (c : tie.After-put_text_within-len) → c.put_text_within-len.result ≤ TEXT_MOST
 short c =
-    let p = c.put-text-within.ensures in
+    let p = c.put_text_within-len.ensures in
     let a = p.short in
     let b = p.within in omega arith
 
-slice-read-n : tie.Need-slice-read-n
+slice-read-n : tie.Need-bounds-s-from
 slice-read-n c = search rules
 
-cast-n : tie.Need-overflow-cast-n
+cast-n : tie.Need-overflow_cast-n
 cast-n c = omega (arith, few c.before.before)
 
-add-put-text-within : tie.Need-overflow-add-put-text-within
+add-put-text-within : tie.Need-overflow_add-from
 add-put-text-within c = search rules
 
-add-put-text-within-2 : tie.Need-overflow-add-put-text-within-2
+add-put-text-within-2 : tie.Need-overflow_add-to
 add-put-text-within-2 c = search rules
 
-put-text-within-requires : tie.Need-put-text-within-requires
+put-text-within-requires : tie.Need-put_text_within-len-requires
 put-text-within-requires c κs = omega (arith, few c.before.before.before)
 
-add-put-zeros : tie.Need-overflow-add-put-zeros
+add-put-zeros : tie.Need-overflow_add-to-2
 add-put-zeros c = search rules
 
-add-put-zeros-2 : tie.Need-overflow-add-put-zeros-2
-add-put-zeros-2 c = omega (arith, short (text c))
+add-put-zeros-2 : tie.Need-overflow_add-to-3
+add-put-zeros-2 c = omega (arith, short c.before.before.before)
 
-sub-put-zeros : tie.Need-overflow-sub-put-zeros
-sub-put-zeros c = omega (arith, short (text c))
+sub-put-zeros : tie.Need-overflow_sub-len
+sub-put-zeros c = omega (arith, short c.before.before.before)
 
-put-zeros-requires : tie.Need-put-zeros-requires
-put-zeros-requires c κs = omega (arith, short (text c))
+put-zeros-requires : tie.Need-put_zeros-requires
+put-zeros-requires c κs = omega (arith, short c.before.before.before)
 
-cast-put-u8 : tie.Need-overflow-cast-put-u8
-cast-put-u8 c = omega (arith, short (text c.before.before.before.before))
+cast-put-u8 : tie.Need-overflow_cast-len
+cast-put-u8 c = omega (arith, short c.before.before.before.before.before.before.before)
 
-put-u8-requires : tie.Need-put-u8-requires
+put-u8-requires : tie.Need-put_u8-requires
 put-u8-requires c κs = search rules
 
-same_length : tie.Need-same-length
+same_length : tie.Need-shape_of-s
 same_length c = search rules
 
 returns : tie.Need-returns
 returns c =
-    let len = c.before.before in
-    let zeros = len.before.before.before.before in
-    let bytes = text zeros.before in
-    let a = (begun bytes).args in
-    typed_written a.from a.to a.s.now a.s.now refl bytes.put-text-within.ensures zeros.put-zeros.ensures len.put-u8.ensures refl refl
+    let a = c.args in
+    typed_written a.from a.to a.s.now a.s.now refl c.put_text_within-len.ensures c.put_zeros.ensures c.put_u8.ensures refl refl
 
-pub put-typed-within-spec : {M : Type 1} → statement M
-put-typed-within-spec =
+pub put_typed_within_spec : {M : Type 1} → statement M
+put_typed_within_spec =
     tie.close
     (tie.spec
     slice-read-n

@@ -7,19 +7,22 @@ use Rattle.record.proofs.write.Zeros.{other_size, right-size}
 use Rattle.record.proofs.write.fresh.Statement.{statement}
 use Rattle.record.proofs.write.fresh.Tie as tie
 
-returns : tie.Need-returns
-returns c = other_size c.before.before.args.session.now (λ e. omega arith)
+returns : tie.Need-returns-then-session-ne-AREA_SIZE
+returns c = other_size c.args.session.now (λ e. omega arith)
 
-fill-zero-requires : tie.Need-fill-zero-requires
+fill-zero-requires : tie.Need-fill_zero-requires
 fill-zero-requires c κs = search rules
 
-same_length : tie.Need-same-length
+same_length : tie.Need-shape_of-session
 same_length c = search rules
 
-returns-2 : tie.Need-returns-2
+returns-2 : tie.Need-returns
 returns-2 c =
-    let zeros = c.before.before in
-    right-size zeros.before.before.before.before.args.session.now (omega arith) zeros.fill-zero.ensures refl
+    right-size c.args.session.now (omega arith) c.fill_zero.ensures refl
 
-pub fresh-spec : {M : Type 1} → statement M
-fresh-spec = tie.close (tie.spec returns fill-zero-requires same_length returns-2)
+pub fresh_spec : {M : Type 1} → statement M
+fresh_spec = tie.close (tie.spec
+    returns
+    fill-zero-requires
+    same_length
+    returns-2)

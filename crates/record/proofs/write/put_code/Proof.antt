@@ -6,37 +6,34 @@ use Rattle.record.proofs.write.Marks.{code-written}
 use Rattle.record.proofs.write.put_code.Statement.{statement}
 use Rattle.record.proofs.write.put_code.Tie as tie
 
-code-key-requires : tie.Need-code-key-requires
+code-key-requires : tie.Need-code_key-key-requires
 code-key-requires c κs = search rules
 
-cast-put-u32 : tie.Need-overflow-cast-put-u32
+cast-put-u32 : tie.Need-overflow_cast-key
 cast-put-u32 c = search rules
 
-put-u32-requires : tie.Need-put-u32-requires
+put-u32-requires : tie.Need-put_u32-requires
 put-u32-requires c κs = search rules
 
-add-put-u16 : tie.Need-overflow-add-put-u16
+add-put-u16 : tie.Need-overflow_add-at
 add-put-u16 c = search rules
 
-cast-put-u16 : tie.Need-overflow-cast-put-u16
+cast-put-u16 : tie.Need-overflow_cast-key-2
 cast-put-u16 c = search rules
 
-put-u16-requires : tie.Need-put-u16-requires
+put-u16-requires : tie.Need-put_u16-requires
 put-u16-requires c κs = search rules
 
-same_length : tie.Need-same-length
+same_length : tie.Need-shape_of-s
 same_length c = search rules
 
 returns : tie.Need-returns
 returns c =
-    let high = c.before.before in
-    let low = high.before.before.before.before in
-    let number = low.before.before in
-    let a = number.before.before.args in
-    code-written a.c a.at a.s.now number.code-key.ensures low.put-u32.ensures high.put-u16.ensures refl
+    let a = c.args in
+    code-written a.c a.at a.s.now c.code_key-key.ensures c.put_u32.ensures c.put_u16.ensures refl
 
-pub put-code-spec : {M : Type 1} → statement M
-put-code-spec =
+pub put_code_spec : {M : Type 1} → statement M
+put_code_spec =
     tie.close
     (tie.spec
     code-key-requires

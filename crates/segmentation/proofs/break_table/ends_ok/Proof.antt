@@ -7,5 +7,6 @@ use Rattle.segmentation.proofs.break_table.ends_ok.Tie as tie
 returns : tie.Need-returns
 returns c = rw (scalar_bits c.args.first, scalar_bits c.args.last)
 
-pub ends-ok-spec : {M : Type 1} → statement M
-ends-ok-spec = tie.close (tie.spec returns)
+pub ends_ok_spec : {M : Type 1} → statement M
+ends_ok_spec = tie.close (tie.spec
+    returns)

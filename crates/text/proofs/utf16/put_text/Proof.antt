@@ -14,82 +14,77 @@ use Rattle.text.proofs.Made.{Made, start, put_none, put_all, fits, may_append, n
 use Rattle.text.proofs.utf16.put_text.Statement.{statement}
 use Rattle.text.proofs.utf16.put_text.Tie as tie
 
-abbrev invariant-loop : tie.invariant-loop
+abbrev invariant-loop : tie.invariant-loop-i
 invariant-loop src from n dst₀ at to₀ i₀ dst to i = Made (units_at n (drop from src)) n at dst₀ dst to i
 
-abbrev decreases-loop : tie.decreases-loop
+abbrev decreases-loop : tie.decreases-loop-i
 decreases-loop src from n dst₀ at to₀ i₀ dst to i = n - i
 
 -- from a step back to its turn of the loop
-abbrev turn : tie.After-utf16-step invariant-loop decreases-loop → tie.At-loop invariant-loop decreases-loop
+abbrev turn : tie.After-utf16_step-step invariant-loop decreases-loop → tie.At-loop-i invariant-loop decreases-loop
 turn c = c.before.before
 
-abbrev units : tie.At-loop invariant-loop decreases-loop → List ℕ
-units l = let a = l.before.before.before.args in units_at a.n (drop a.from a.src.now)
+abbrev units : tie.At-loop-i invariant-loop decreases-loop → List ℕ
+units l = let a = l.args in units_at a.n (drop a.from a.src.now)
 
-stepped : (c : tie.After-utf16-step invariant-loop decreases-loop) → utf16_step (drop (turn c).loop.i (units (turn c))) ≡ c.utf16-step.result
+stepped : (c : tie.After-utf16_step-step invariant-loop decreases-loop) → utf16_step (drop c.loop-i.i (units c.before.before)) ≡ c.utf16_step-step.result
 stepped c =
-    sym c.utf16-step.ensures
+    sym c.utf16_step-step.ensures
 
 -- what a scalar value there says
-found : (c : tie.After-step invariant-loop decreases-loop) → utf16_step (drop (turn c.before.before).loop.i (units (turn c.before.before))) ≡ Scalar c.step.given.0.0 c.step.given.0.1.0
-found c = stepped c.before.before ∙ c.step.given.1
+found : (c : tie.In-Scalar invariant-loop decreases-loop) → utf16_step (drop c.loop-i.i (units c.before.before.before)) ≡ Scalar c.in-Scalar.c c.in-Scalar.k
+found c = stepped c.before ∙ c.in-Scalar.is
 
-inside : (c : tie.After-step invariant-loop decreases-loop) → (0 < c.step.given.0.1.0) × ((turn c.before.before).loop.i + c.step.given.0.1.0 ≤ (turn c.before.before).before.before.before.args.n)
-inside c = fits _ _ _ _ _ _ _ (turn c.before.before).loop.inv _ _ (found c)
+inside : (c : tie.In-Scalar invariant-loop decreases-loop) → (0 < c.in-Scalar.k) × (c.loop-i.i + c.in-Scalar.k ≤ c.args.n)
+inside c = fits _ _ _ _ _ _ _ c.loop-i.invariant _ _ (found c)
 
-loop-holds : tie.Need-loop-init invariant-loop decreases-loop
-loop-holds c = let start_of_lem = c.before.before in start _ _ _ _ (units-count start_of_lem.args.n (drop start_of_lem.args.from start_of_lem.args.src.now)) start_of_lem.requires.1
+loop-holds : tie.Need-loop-i-init invariant-loop decreases-loop
+loop-holds c = start _ _ _ _ (units-count c.args.n (drop c.args.from c.args.src.now)) c.requires.1
 
-utf16-step-requires : tie.Need-utf16-step-requires invariant-loop decreases-loop
+utf16-step-requires : tie.Need-utf16_step-step-requires invariant-loop decreases-loop
 utf16-step-requires c κs = search rules
 
-enum_told : tie.Need-enum-told invariant-loop decreases-loop
+enum_told : tie.Need-enum_told-1 invariant-loop decreases-loop
 enum_told c = search rules
 
-same_length : tie.Need-same-length invariant-loop decreases-loop
+same_length : tie.Need-shape_of-dst-in-Bad invariant-loop decreases-loop
 same_length c = search rules
 
-returns : tie.Need-returns invariant-loop decreases-loop
+returns : tie.Need-returns-in-Bad invariant-loop decreases-loop
 returns c =
-    let step = c.before.before in
-    let l = turn step in
-    put_none _ _ _ _ _ _ _ l.loop.inv step.before.loop-test.true (stepped step ∙ c.enum_told.given.1)
+    put_none _ _ _ _ _ _ _ c.loop-i.invariant c.loop-i-test.true (stepped c.before ∙ c.in-Bad.is)
 
-enum-known-step : tie.Need-enum-known-step invariant-loop decreases-loop
+enum-known-step : tie.Need-enum_known-step invariant-loop decreases-loop
 enum-known-step c = search rules
 
-put-scalar-requires : tie.Need-put-scalar-requires invariant-loop decreases-loop
+put-scalar-requires : tie.Need-put_scalar-to-requires invariant-loop decreases-loop
 put-scalar-requires c κs =
-    let step = c.before.before in
-    let l = turn step.before.before in
-    let room = may_append _ _ _ _ _ _ _ l.loop.inv _ _ (found step) in
-    let size = l.loop.inv.size in
-    let pre = l.before.before.before.pre in (room.0, omega arith)
+    let room = may_append _ _ _ _ _ _ _ c.loop-i.invariant _ _ (found c.before) in
+    let size = c.loop-i.invariant.size in
+    let pre = c.requires in (room.0, omega arith)
 
-add-i : tie.Need-overflow-add-i invariant-loop decreases-loop
-add-i c = omega (arith, inside c.before.before.before.before.before)
+add-i : tie.Need-overflow_add-i invariant-loop decreases-loop
+add-i c = omega (arith, inside c.before.before.before.before)
 
-loop-less : tie.Need-loop-smaller invariant-loop decreases-loop
-loop-less c = omega (arith, inside c.before.before.before.before.before)
+loop-less : tie.Need-loop-i-smaller invariant-loop decreases-loop
+loop-less c = omega (arith, inside c.before.before.before.before)
 
-loop-again : tie.Need-loop-preserved invariant-loop decreases-loop
+loop-again : tie.Need-loop-i-preserved invariant-loop decreases-loop
 loop-again c =
-    let a = c.before.before.put-scalar.ensures in
-    let step = c.before.before.before.before.before in
-    rw (a.0, a.1) (next _ _ _ _ _ _ _ (turn step.before.before).loop.inv _ _ (found step))
+    let a = c.put_scalar-to.ensures in
+    rw (a.0, a.1) (next _ _ _ _ _ _ _ c.loop-i.invariant _ _ (found c.before.before.before.before))
 
-sub-result : tie.Need-overflow-sub-result invariant-loop decreases-loop
+sub-result : tie.Need-overflow_sub-result invariant-loop decreases-loop
 sub-result c = search rules
 
-same-length-2 : tie.Need-same-length-2 invariant-loop decreases-loop
+same-length-2 : tie.Need-shape_of-dst invariant-loop decreases-loop
 same-length-2 c = search rules
 
-returns-2 : tie.Need-returns-2 invariant-loop decreases-loop
-returns-2 c = put_all _ _ _ _ _ _ _ c.before.loop.invariant c.loop-test.false
+returns-2 : tie.Need-returns invariant-loop decreases-loop
+returns-2 c = put_all _ _ _ _ _ _ _ c.loop-i.invariant c.loop-i-test.false
 
-pub put-text-spec : {M : Type 1} → statement M
-put-text-spec =
+pub put_text_spec : {M : Type 1} → statement M
+put_text_spec =
     tie.close
     (tie.spec
     invariant-loop

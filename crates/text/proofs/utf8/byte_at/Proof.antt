@@ -8,30 +8,36 @@ use Rattle.text.proofs.Tests.{past_end}
 use Rattle.text.proofs.utf8.byte_at.Statement.{statement}
 use Rattle.text.proofs.utf8.byte_at.Tie as tie
 
-sub-if1 : tie.Need-overflow-sub-if1
+sub-if1 : tie.Need-overflow_sub-t
 sub-if1 c = omega arith
 
-returns : tie.Need-returns
+returns : tie.Need-returns-then-t-i
 returns c =
-    let a = c.before.args in
-    (past_end a.t.now a.i a.k c.if1.true, omega arith)
+    let a = c.args in
+    (past_end a.t.now a.i a.k c.if-t-i.true, omega arith)
 
-add-result : tie.Need-overflow-add-result
+add-result : tie.Need-overflow_add-result
 add-result c = omega arith
 
-shared-slice-read-result : tie.Need-shared-slice-read-result
+shared-slice-read-result : tie.Need-bounds-t-i
 shared-slice-read-result c = omega arith
 
-cast-result : tie.Need-overflow-cast-result
+cast-result : tie.Need-overflow_cast-result
 cast-result c =
-    let a = c.before.before.args in
-    omega (arith, c.shared-slice-known.given (a.i + a.k))
+    let a = c.args in
+    omega (arith, c.shared_slice_known-1.given (a.i + a.k))
 
-returns-2 : tie.Need-returns-2
+returns-2 : tie.Need-returns
 returns-2 c =
-    let a = c.before.before.args in
-    (sym (get_or-drop a.i a.t.now a.k 0), omega (arith, c.shared-slice-known.given (a.i + a.k)))
+    let a = c.args in
+    (sym (get_or-drop a.i a.t.now a.k 0), omega (arith, c.shared_slice_known-1.given (a.i + a.k)))
 
-pub byte-at-spec : {M : Type 1} → statement M
-byte-at-spec =
-    tie.close (tie.spec sub-if1 returns add-result shared-slice-read-result cast-result returns-2)
+pub byte_at_spec : {M : Type 1} → statement M
+byte_at_spec =
+    tie.close (tie.spec
+    sub-if1
+    returns
+    add-result
+    shared-slice-read-result
+    cast-result
+    returns-2)

@@ -12,69 +12,68 @@ use Rattle.text.proofs.Steps.{ascii, fits_at, well_next, well_bad, well_end}
 use Rattle.text.proofs.utf8.well_formed.Statement.{statement}
 use Rattle.text.proofs.utf8.well_formed.Tie as tie
 
-abbrev invariant-loop : tie.invariant-loop
+abbrev invariant-loop : tie.invariant-loop-i
 invariant-loop t i₀ i = (i ≤ length t) × (well_formed t ≡ well_formed (drop i t))
 
-abbrev decreases-loop : tie.decreases-loop
+abbrev decreases-loop : tie.decreases-loop-i
 decreases-loop t i₀ i = length t - i
 
 -- from a step that found a scalar value back to the loop, and to the start
-abbrev looped : tie.After-step invariant-loop decreases-loop → tie.At-loop invariant-loop decreases-loop
-looped c = c.before.before.before.before
+abbrev looped : tie.In-Scalar invariant-loop decreases-loop → tie.At-loop-i invariant-loop decreases-loop
+looped c = c.before.before.before
 
-abbrev start : tie.At-loop invariant-loop decreases-loop → tie.Start invariant-loop decreases-loop
+abbrev start : tie.At-loop-i invariant-loop decreases-loop → tie.Start invariant-loop decreases-loop
 start c = c.before.before.before.before
 
 -- the scalar value, and that it lies within the bytes
 found_in :
-    (c : tie.After-step invariant-loop decreases-loop) →
-    let g = c.step.given in
-    utf8_step (drop (looped c).loop.i (start (looped c)).args.t.now) ≡ Scalar g.0.0 g.0.1.0
-found_in c = sym c.before.before.utf8-step.ensures ∙ c.step.given.1
+    (c : tie.In-Scalar invariant-loop decreases-loop) →
+    let g = c.step-1.given in
+    utf8_step (drop c.loop-i.i c.args.t.now) ≡ Scalar g.0.0 g.0.1.0
+found_in c = sym c.utf8_step-step.ensures ∙ c.in-Scalar.is
 
 fits_in :
-    (c : tie.After-step invariant-loop decreases-loop) →
-    let n = c.step.given.0.1.0 in (0 < n) × ((looped c).loop.i + n ≤ length (start (looped c)).args.t.now)
+    (c : tie.In-Scalar invariant-loop decreases-loop) →
+    let n = c.in-Scalar.n in (0 < n) × (c.loop-i.i + n ≤ length c.args.t.now)
 fits_in c = fits_at _ _ utf8_of utf8_step knows8 _ _ (found_in c)
 
-or-all-requires : tie.Need-or-all-requires invariant-loop decreases-loop
+or-all-requires : tie.Need-or_all-requires invariant-loop decreases-loop
 or-all-requires c κs = search rules
 
-returns : tie.Need-returns invariant-loop decreases-loop
-returns c = ascii 0 _ (rw (← c.before.or-all.ensures) c.if1.true)
+returns : tie.Need-returns-then-or_all-lt128 invariant-loop decreases-loop
+returns c = ascii 0 _ (rw (← c.or_all.ensures) c.if-or_all-lt128.true)
 
-loop-holds : tie.Need-loop-init invariant-loop decreases-loop
+loop-holds : tie.Need-loop-i-init invariant-loop decreases-loop
 loop-holds c = (omega arith, refl)
 
-utf8-step-requires : tie.Need-utf8-step-requires invariant-loop decreases-loop
+utf8-step-requires : tie.Need-utf8_step-step-requires invariant-loop decreases-loop
 utf8-step-requires c κs = search rules
 
-enum_told : tie.Need-enum-told invariant-loop decreases-loop
+enum_told : tie.Need-enum_told-1 invariant-loop decreases-loop
 enum_told c = search rules
 
-returns-2 : tie.Need-returns-2 invariant-loop decreases-loop
+returns-2 : tie.Need-returns-in-Bad invariant-loop decreases-loop
 returns-2 c =
-    let s = c.before.before in
-    well_bad _ _ s.before.before.loop.invariant.1 s.before.loop-test.true (sym s.utf8-step.ensures ∙ c.enum_told.given.1)
+    well_bad _ _ c.loop-i.invariant.1 c.loop-i-test.true (sym c.utf8_step-step.ensures ∙ c.in-Bad.is)
 
-enum-known-step : tie.Need-enum-known-step invariant-loop decreases-loop
+enum-known-step : tie.Need-enum_known-step invariant-loop decreases-loop
 enum-known-step c = search rules
 
-add-i : tie.Need-overflow-add-i invariant-loop decreases-loop
-add-i c = let f = fits_in c.before in omega arith
+add-i : tie.Need-overflow_add-i invariant-loop decreases-loop
+add-i c = let f = fits_in c in omega arith
 
-loop-less : tie.Need-loop-smaller invariant-loop decreases-loop
-loop-less c = let f = fits_in c.before in omega arith
+loop-less : tie.Need-loop-i-smaller invariant-loop decreases-loop
+loop-less c = let f = fits_in c in omega arith
 
-loop-again : tie.Need-loop-preserved invariant-loop decreases-loop
+loop-again : tie.Need-loop-i-preserved invariant-loop decreases-loop
 loop-again c =
-    let s = c.before in ((fits_in s).1, well_next _ _ (looped s).loop.invariant.1 _ _ (found_in s))
+    ((fits_in c).1, well_next _ _ c.loop-i.invariant.1 _ _ (found_in c))
 
-returns-3 : tie.Need-returns-3 invariant-loop decreases-loop
-returns-3 c = well_end _ _ c.before.loop.invariant.1 c.loop-test.false
+returns-3 : tie.Need-returns invariant-loop decreases-loop
+returns-3 c = well_end _ _ c.loop-i.invariant.1 c.loop-i-test.false
 
-pub well-formed-spec : {M : Type 1} → statement M
-well-formed-spec =
+pub well_formed_spec : {M : Type 1} → statement M
+well_formed_spec =
     tie.close
     (tie.spec
     invariant-loop

@@ -10,14 +10,17 @@ use Rattle.trace.proofs.form.byte_at.Tie as tie
 use Rattle.trace.proofs.form.byte_at.Reads as reads
 use Rattle.trace.proofs.form.byte_at.Lts as lts
 
-shared-slice-read-result : tie.Need-shared-slice-read-result
+shared-slice-read-result : tie.Need-bounds-x-at
 shared-slice-read-result c = search rules
 
-returns : tie.Need-returns
+returns : tie.Need-returns-then-at-x
 returns c = search rules
 
-returns-2 : tie.Need-returns-2
-returns-2 c = (sym (get_or-eq_default c.before.args.x.now 0 {n = c.before.args.at} c.if1.false), λ h. omega arith)
+returns-2 : tie.Need-returns
+returns-2 c = (sym (get_or-eq_default c.args.x.now 0 {n = c.args.at} c.if-at-x.false), λ h. omega arith)
 
-pub byte-at-spec : {M : Type 1} → statement M
-byte-at-spec = tie.close (tie.spec shared-slice-read-result returns returns-2)
+pub byte_at_spec : {M : Type 1} → statement M
+byte_at_spec = tie.close (tie.spec
+    shared-slice-read-result
+    returns
+    returns-2)

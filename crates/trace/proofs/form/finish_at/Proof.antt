@@ -12,80 +12,62 @@ use Rattle.trace.proofs.form.finish_at.Reads as reads
 use Rattle.trace.proofs.form.finish_at.Lts as lts
 use Rattle.trace.proofs.form.field_at.Reads as field-at-reads
 
-field-at-requires : tie.Need-field-at-requires
+field-at-requires : tie.Need-field_at-requires
 field-at-requires c κs = search rules
 
-enum-known-present : tie.Need-enum-known-present
+enum-known-present : tie.Need-enum_known-present
 enum-known-present c = search rules
 
-enum_told : tie.Need-enum-told
+enum_told : tie.Need-enum_told-1
 enum_told c = search rules
 
-returns : tie.Need-returns
+returns : tie.Need-returns-in_default
 unfolding finish_at
-returns c = rw (← c.before.before.field_at.ensures, c.enum_told.given.1)
+returns c = rw (← c.field_at.ensures, c.in_default.is)
 
-field-at-requires-2 : tie.Need-field-at-requires-2
+field-at-requires-2 : tie.Need-field_at-requires-2
 field-at-requires-2 c κs = search rules
 
-enum-known-kind : tie.Need-enum-known-kind
+enum-known-kind : tie.Need-enum_known-kind
 enum-known-kind c = search rules
 
-enum-told-2 : tie.Need-enum-told-2
+enum-told-2 : tie.Need-enum_told-in_default-field_at
 enum-told-2 c = search rules
 
-returns-2 : tie.Need-returns-2
+returns-2 : tie.Need-returns-in_default-field_at
 unfolding finish_at
 returns-2 c =
-    let present-in = c.before.before.before.before in
-    let field-at-in = present-in.before.before in
-    rw (← field-at-in.field_at.ensures, present-in.present.given.1, ← c.before.before.field-at2.ensures, c.enum-told2.given.1)
+    rw (← c.field_at.ensures, c.in-Value.is, ← c.field_at-2.ensures, c.in_default-field_at.is)
 
-field-at-requires-3 : tie.Need-field-at-requires-3
+field-at-requires-3 : tie.Need-field_at-requires-3
 field-at-requires-3 c κs = search rules
 
-enum-known-lparam : tie.Need-enum-known-lparam
+enum-known-lparam : tie.Need-enum_known-lparam
 enum-known-lparam c = search rules
 
-enum-told-3 : tie.Need-enum-told-3
+enum-told-3 : tie.Need-enum_told-in_default-field_at-2
 enum-told-3 c = search rules
 
-returns-3 : tie.Need-returns-3
+returns-3 : tie.Need-returns-in_default-field_at-2
 unfolding finish_at
 returns-3 c =
-    let kind-in = c.before.before.before.before in
-    let field-at-in = kind-in.before.before in
-    let present-in = field-at-in.before.before in
-    let field-at-in2 = present-in.before.before in
-    rw (← field-at-in2.field_at.ensures, present-in.present.given.1, ← field-at-in.field-at2.ensures, kind-in.kind.given.1, ← c.before.before.field-at3.ensures, c.enum-told3.given.1)
+    rw (← c.field_at.ensures, c.in-Value.is, ← c.field_at-2.ensures, c.in-Value-field_at.is, ← c.field_at-3.ensures, c.in_default-field_at-2.is)
 
-cast-t12 : tie.Need-overflow-cast-t12
+cast-t12 : tie.Need-overflow_cast-result
 cast-t12 c =
-    let past4 = c.before.before.before.before in
-    let past8 = past4.before.before.before.before in
-    let present-in = past8.before in
-    let field-at-in = present-in.before.before in
-    omega (arith, within _ _ _ _ _ _ (sym present-in.present.given.1 ∙ field-at-in.field_at.ensures))
+    omega (arith, within _ _ _ _ _ _ (sym c.in-Value.is ∙ c.field_at.ensures))
 
-cast-t13 : tie.Need-overflow-cast-t13
+cast-t13 : tie.Need-overflow_cast-result-2
 cast-t13 c =
-    let past4 = c.before.before.before.before in
-    let kind-in = past4.before in
-    let field-at-in = kind-in.before.before in
-    omega (arith, within _ _ _ _ _ _ (sym kind-in.kind.given.1 ∙ field-at-in.field-at2.ensures))
+    omega (arith, within _ _ _ _ _ _ (sym c.in-Value-field_at.is ∙ c.field_at-2.ensures))
 
-returns-4 : tie.Need-returns-4
+returns-4 : tie.Need-returns
 unfolding finish_at
 returns-4 c =
-    let field-at-in = c.before.before.before in
-    let kind-in = field-at-in.before.before in
-    let field-at-in2 = kind-in.before.before in
-    let present-in = field-at-in2.before.before in
-    let field-at-in3 = present-in.before.before in
-    rw (← field-at-in3.field_at.ensures, present-in.present.given.1, ← field-at-in2.field-at2.ensures, kind-in.kind.given.1, ← field-at-in.field-at3.ensures, c.before.lparam.given.1)
+    rw (← c.field_at.ensures, c.in-Value.is, ← c.field_at-2.ensures, c.in-Value-field_at.is, ← c.field_at-3.ensures, c.in-Value-field_at-2.is)
 
-pub finish-at-spec : {M : Type 1} → statement M
-finish-at-spec =
+pub finish_at_spec : {M : Type 1} → statement M
+finish_at_spec =
     tie.close
     (tie.spec
     field-at-requires

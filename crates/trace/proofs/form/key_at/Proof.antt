@@ -12,55 +12,47 @@ use Rattle.trace.proofs.form.key_at.Reads as reads
 use Rattle.trace.proofs.form.key_at.Lts as lts
 use Rattle.trace.proofs.form.field_at.Reads as field-at-reads
 
-field-at-requires : tie.Need-field-at-requires
+field-at-requires : tie.Need-field_at-requires
 field-at-requires c κs = search rules
 
-enum-known-vk : tie.Need-enum-known-vk
+enum-known-vk : tie.Need-enum_known-vk
 enum-known-vk c = search rules
 
-enum_told : tie.Need-enum-told
+enum_told : tie.Need-enum_told-1
 enum_told c = search rules
 
-returns : tie.Need-returns
+returns : tie.Need-returns-in_default
 unfolding key_at
-returns c = rw (← c.before.before.field_at.ensures, c.enum_told.given.1)
+returns c = rw (← c.field_at.ensures, c.in_default.is)
 
-field-at-requires-2 : tie.Need-field-at-requires-2
+field-at-requires-2 : tie.Need-field_at-requires-2
 field-at-requires-2 c κs = search rules
 
-enum-known-byte : tie.Need-enum-known-byte
+enum-known-byte : tie.Need-enum_known-byte
 enum-known-byte c = search rules
 
-enum-told-2 : tie.Need-enum-told-2
+enum-told-2 : tie.Need-enum_told-in_default-field_at
 enum-told-2 c = search rules
 
-returns-2 : tie.Need-returns-2
+returns-2 : tie.Need-returns-in_default-field_at
 unfolding key_at
 returns-2 c =
-    let vk-in = c.before.before.before.before in
-    let field-at-in = vk-in.before.before in
-    rw (← field-at-in.field_at.ensures, vk-in.vk.given.1, ← c.before.before.field-at2.ensures, c.enum-told2.given.1)
+    rw (← c.field_at.ensures, c.in-Value.is, ← c.field_at-2.ensures, c.in_default-field_at.is)
 
-cast-t9 : tie.Need-overflow-cast-t9
+cast-t9 : tie.Need-overflow_cast-result
 cast-t9 c =
-    let past4 = c.before.before.before.before in
-    let vk-in = past4.before in
-    let field-at-in = vk-in.before.before in
-    omega (arith, within _ _ _ _ _ _ (sym vk-in.vk.given.1 ∙ field-at-in.field_at.ensures))
+    omega (arith, within _ _ _ _ _ _ (sym c.in-Value.is ∙ c.field_at.ensures))
 
-cast-t10 : tie.Need-overflow-cast-t10
-cast-t10 c = omega (arith, within _ _ _ _ _ _ (sym c.before.byte.given.1 ∙ c.before.before.before.field-at2.ensures))
+cast-t10 : tie.Need-overflow_cast-result-2
+cast-t10 c = omega (arith, within _ _ _ _ _ _ (sym c.in-Value-field_at.is ∙ c.field_at-2.ensures))
 
-returns-3 : tie.Need-returns-3
+returns-3 : tie.Need-returns
 unfolding key_at
 returns-3 c =
-    let field-at-in = c.before.before.before in
-    let vk-in = field-at-in.before.before in
-    let field-at-in2 = vk-in.before.before in
-    rw (← field-at-in2.field_at.ensures, vk-in.vk.given.1, ← field-at-in.field-at2.ensures, c.before.byte.given.1)
+    rw (← c.field_at.ensures, c.in-Value.is, ← c.field_at-2.ensures, c.in-Value-field_at.is)
 
-pub key-at-spec : {M : Type 1} → statement M
-key-at-spec =
+pub key_at_spec : {M : Type 1} → statement M
+key_at_spec =
     tie.close
     (tie.spec
     field-at-requires

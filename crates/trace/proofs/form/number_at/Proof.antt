@@ -20,36 +20,36 @@ unfolding digit_of
 some_digit zero d e h = absurd (h e)
 some_digit (suc b) d e h = omega arith
 
-byte-at-requires : tie.Need-byte-at-requires
+byte-at-requires : tie.Need-byte_at-b-requires
 byte-at-requires c κs = search rules
 
-digit-of-requires : tie.Need-digit-of-requires
+digit-of-requires : tie.Need-digit_of-d-requires
 digit-of-requires c κs = search rules
 
-returns : tie.Need-returns
+returns : tie.Need-returns-then-d-eq16
 unfolding number_at
-returns c = rw (← c.before.before.byte_at.ensures.0, ← c.before.digit-of.ensures.0, eq-eqb _ 16 c.if1.true)
+returns c = rw (← c.byte_at-b.ensures.0, ← c.digit_of-d.ensures.0, eq-eqb _ 16 c.if-d-eq16.true)
 
-add-t7 : tie.Need-overflow-add-t7
+add-t7 : tie.Need-overflow_add-result
 add-t7 c =
-    let l = c.before.before.before.byte_at.ensures.1 (some_digit _ _ c.before.before.digit-of.ensures.0 c.before.if1.false) in
+    let l = c.byte_at-b.ensures.1 (some_digit _ _ c.digit_of-d.ensures.0 c.if-d-eq16.false) in
     omega arith
 
-returns-2 : tie.Need-returns-2
+returns-2 : tie.Need-returns-then-d-eq0
 unfolding number_at
-returns-2 c = rw (← c.before.before.before.byte_at.ensures.0, ← c.before.before.digit-of.ensures.0, ne_eqb _ 16 c.before.if1.false, eq-eqb _ 0 c.if2.true)
+returns-2 c = rw (← c.byte_at-b.ensures.0, ← c.digit_of-d.ensures.0, ne_eqb _ 16 c.if-d-eq16.false, eq-eqb _ 0 c.if-d-eq0.true)
 
-digits-from-requires : tie.Need-digits-from-requires
+digits-from-requires : tie.Need-digits_from-requires
 digits-from-requires c κs =
-    let l = c.before.before.before.byte_at.ensures.1 (some_digit _ _ c.before.before.digit-of.ensures.0 c.before.if1.false) in
+    let l = c.byte_at-b.ensures.1 (some_digit _ _ c.digit_of-d.ensures.0 c.if-d-eq16.false) in
     omega arith
 
-returns-3 : tie.Need-returns-3
+returns-3 : tie.Need-returns
 unfolding number_at
-returns-3 c = rw (← c.before.before.before.before.byte_at.ensures.0, ← c.before.before.before.digit-of.ensures.0, ne_eqb _ 16 c.before.before.if1.false, ne_eqb _ 0 c.before.if2.false) c.digits_from.ensures
+returns-3 c = rw (← c.byte_at-b.ensures.0, ← c.digit_of-d.ensures.0, ne_eqb _ 16 c.if-d-eq16.false, ne_eqb _ 0 c.if-d-eq0.false) c.digits_from.ensures
 
-pub number-at-spec : {M : Type 1} → statement M
-number-at-spec =
+pub number_at_spec : {M : Type 1} → statement M
+number_at_spec =
     tie.close
     (tie.spec
     byte-at-requires

@@ -9,26 +9,32 @@ use Rattle.trace.proofs.numeral.glyph_of.Tie as tie
 use Rattle.trace.proofs.numeral.glyph_of.Reads as reads
 use Rattle.trace.proofs.numeral.glyph_of.Lts as lts
 
-add-result : tie.Need-overflow-add-result
+add-result : tie.Need-overflow_add-result
 add-result c = search rules
 
-cast-result : tie.Need-overflow-cast-result
+cast-result : tie.Need-overflow_cast-result
 cast-result c = search rules
 
-returns : tie.Need-returns
+returns : tie.Need-returns-then-d-lt10
 unfolding glyph
-returns c = rw (lt-ltb _ 10 c.if1.true)
+returns c = rw (lt-ltb _ 10 c.if-d-lt10.true)
 
-add-result-2 : tie.Need-overflow-add-result-2
+add-result-2 : tie.Need-overflow_add-result-2
 add-result-2 c = search rules
 
-cast-result-2 : tie.Need-overflow-cast-result-2
+cast-result-2 : tie.Need-overflow_cast-result-2
 cast-result-2 c = search rules
 
-returns-2 : tie.Need-returns-2
+returns-2 : tie.Need-returns
 unfolding glyph
-returns-2 c = rw (le-ltb _ 10 c.if1.false)
+returns-2 c = rw (le-ltb _ 10 c.if-d-lt10.false)
 
-pub glyph-of-spec : {M : Type 1} → statement M
-glyph-of-spec =
-    tie.close (tie.spec add-result cast-result returns add-result-2 cast-result-2 returns-2)
+pub glyph_of_spec : {M : Type 1} → statement M
+glyph_of_spec =
+    tie.close (tie.spec
+    add-result
+    cast-result
+    returns
+    add-result-2
+    cast-result-2
+    returns-2)

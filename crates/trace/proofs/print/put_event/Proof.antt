@@ -13,28 +13,31 @@ use Rattle.trace.proofs.print.put_head.Reads as put-head-reads
 use Rattle.trace.proofs.print.put_marks.Reads as put-marks-reads
 use Rattle.trace.proofs.print.put_text.Reads as put-text-reads
 
-put-head-requires : tie.Need-put-head-requires
+put-head-requires : tie.Need-put_head-a-requires
 put-head-requires c κs = search rules
 
-put-marks-requires : tie.Need-put-marks-requires
+put-marks-requires : tie.Need-put_marks-b-requires
 put-marks-requires c κs = search rules
 
-put-text-requires : tie.Need-put-text-requires
+put-text-requires : tie.Need-put_text-requires
 put-text-requires c κs = search rules
 
-same_length : tie.Need-same-length
+same_length : tie.Need-shape_of-out
 same_length c = search rules
 
 returns : tie.Need-returns
 unfolding event_line
 returns c =
-    let past4 = c.before.before.before.before in
-    let put-marks-in = past4.before.before in
-    let put-head-in = put-marks-in.before.before.before.before in (
-      wrote-append _ _ _ _ _ put-head-in.put-head.ensures.0 (wrote-append _ _ _ _ _ put-marks-in.put-marks.ensures.0 c.before.before.put-text.ensures.0),
+    (
+      wrote-append _ _ _ _ _ c.put_head-a.ensures.0 (wrote-append _ _ _ _ _ c.put_marks-b.ensures.0 c.put_text.ensures.0),
       omega arith,
     )
 
-pub put-event-spec : {M : Type 1} → statement M
-put-event-spec =
-    tie.close (tie.spec put-head-requires put-marks-requires put-text-requires same_length returns)
+pub put_event_spec : {M : Type 1} → statement M
+put_event_spec =
+    tie.close (tie.spec
+    put-head-requires
+    put-marks-requires
+    put-text-requires
+    same_length
+    returns)

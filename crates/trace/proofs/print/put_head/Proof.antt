@@ -12,29 +12,32 @@ use Rattle.trace.proofs.print.put_head.Lts as lts
 use Rattle.trace.proofs.print.put_byte.Reads as put-byte-reads
 use Rattle.trace.proofs.print.put_field.Reads as put-field-reads
 
-put-byte-requires : tie.Need-put-byte-requires
+put-byte-requires : tie.Need-put_byte-a-requires
 put-byte-requires c κs = search rules
 
-put-field-requires : tie.Need-put-field-requires
+put-field-requires : tie.Need-put_field-b-requires
 put-field-requires c κs = search rules
 
-put-field-requires-2 : tie.Need-put-field-requires-2
+put-field-requires-2 : tie.Need-put_field-requires
 put-field-requires-2 c κs = search rules
 
-same_length : tie.Need-same-length
+same_length : tie.Need-shape_of-out
 same_length c = search rules
 
 returns : tie.Need-returns
 unfolding event_head
 returns c =
-    let past4 = c.before.before.before.before in
-    let put-field-in = past4.before.before in
-    let put-byte-in = put-field-in.before.before.before.before in (
-      wrote-append _ _ _ _ _ put-byte-in.put_byte.ensures (wrote-append _ _ _ _ _ put-field-in.put-field.ensures.0 c.before.before.put-field2.ensures.0),
-      let a = put-byte-in.put_byte.ensures.place in omega arith,
+    (
+      wrote-append _ _ _ _ _ c.put_byte-a.ensures (wrote-append _ _ _ _ _ c.put_field-b.ensures.0 c.put_field.ensures.0),
+      let a = c.put_byte-a.ensures.place in omega arith,
     )
 
-pub put-head-spec : {M : Type 1} → statement M
-put-head-spec =
+pub put_head_spec : {M : Type 1} → statement M
+put_head_spec =
     tie.close
-    (tie.spec put-byte-requires put-field-requires put-field-requires-2 same_length returns)
+    (tie.spec
+    put-byte-requires
+    put-field-requires
+    put-field-requires-2
+    same_length
+    returns)

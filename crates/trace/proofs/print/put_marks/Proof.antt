@@ -11,29 +11,32 @@ use Rattle.trace.proofs.print.put_marks.Reads as reads
 use Rattle.trace.proofs.print.put_marks.Lts as lts
 use Rattle.trace.proofs.print.put_field.Reads as put-field-reads
 
-put-field-requires : tie.Need-put-field-requires
+put-field-requires : tie.Need-put_field-a-requires
 put-field-requires c κs = search rules
 
-put-field-requires-2 : tie.Need-put-field-requires-2
+put-field-requires-2 : tie.Need-put_field-b-requires
 put-field-requires-2 c κs = search rules
 
-put-field-requires-3 : tie.Need-put-field-requires-3
+put-field-requires-3 : tie.Need-put_field-requires
 put-field-requires-3 c κs = search rules
 
-same_length : tie.Need-same-length
+same_length : tie.Need-shape_of-out
 same_length c = search rules
 
 returns : tie.Need-returns
 unfolding event_marks
 returns c =
-    let past4 = c.before.before.before.before in
-    let put-field-in = past4.before.before in
-    let put-field-in2 = put-field-in.before.before.before.before in (
-      wrote-append _ _ _ _ _ put-field-in2.put-field.ensures.0 (wrote-append _ _ _ _ _ put-field-in.put-field2.ensures.0 c.before.before.put-field3.ensures.0),
+    (
+      wrote-append _ _ _ _ _ c.put_field-a.ensures.0 (wrote-append _ _ _ _ _ c.put_field-b.ensures.0 c.put_field.ensures.0),
       omega arith,
     )
 
-pub put-marks-spec : {M : Type 1} → statement M
-put-marks-spec =
+pub put_marks_spec : {M : Type 1} → statement M
+put_marks_spec =
     tie.close
-    (tie.spec put-field-requires put-field-requires-2 put-field-requires-3 same_length returns)
+    (tie.spec
+    put-field-requires
+    put-field-requires-2
+    put-field-requires-3
+    same_length
+    returns)

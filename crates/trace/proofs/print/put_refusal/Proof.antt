@@ -12,34 +12,31 @@ use Rattle.trace.proofs.print.put_refusal.Lts as lts
 use Rattle.trace.proofs.print.put_byte.Reads as put-byte-reads
 use Rattle.trace.proofs.print.put_field.Reads as put-field-reads
 
-put-byte-requires : tie.Need-put-byte-requires
+put-byte-requires : tie.Need-put_byte-a-requires
 put-byte-requires c κs = search rules
 
-put-field-requires : tie.Need-put-field-requires
+put-field-requires : tie.Need-put_field-b-requires
 put-field-requires c κs = search rules
 
-put-field-requires-2 : tie.Need-put-field-requires-2
+put-field-requires-2 : tie.Need-put_field-c-requires
 put-field-requires-2 c κs = search rules
 
-put-byte-requires-2 : tie.Need-put-byte-requires-2
+put-byte-requires-2 : tie.Need-put_byte-requires
 put-byte-requires-2 c κs = search rules
 
-same_length : tie.Need-same-length
+same_length : tie.Need-shape_of-out
 same_length c = search rules
 
 returns : tie.Need-returns
 unfolding refusal_line
 returns c =
-    let past4 = c.before.before.before.before in
-    let put-field-in = past4.before.before in
-    let put-field-in2 = put-field-in.before.before.before.before in
-    let put-byte-in = put-field-in2.before.before.before.before in (
-      wrote-append _ _ _ _ _ put-byte-in.put_byte.ensures (wrote-append _ _ _ _ _ put-field-in2.put-field.ensures.0 (wrote-append _ _ _ _ _ put-field-in.put-field2.ensures.0 c.before.before.put-byte2.ensures)),
-      let a = put-byte-in.put_byte.ensures.place in let b = c.before.before.put-byte2.ensures.place in omega arith,
+    (
+      wrote-append _ _ _ _ _ c.put_byte-a.ensures (wrote-append _ _ _ _ _ c.put_field-b.ensures.0 (wrote-append _ _ _ _ _ c.put_field-c.ensures.0 c.put_byte.ensures)),
+      let a = c.put_byte-a.ensures.place in let b = c.put_byte.ensures.place in omega arith,
     )
 
-pub put-refusal-spec : {M : Type 1} → statement M
-put-refusal-spec =
+pub put_refusal_spec : {M : Type 1} → statement M
+put_refusal_spec =
     tie.close
     (tie.spec
     put-byte-requires

@@ -12,29 +12,32 @@ use Rattle.trace.proofs.print.put_text.Lts as lts
 use Rattle.trace.proofs.print.put_byte.Reads as put-byte-reads
 use Rattle.trace.proofs.print.put_pairs.Reads as put-pairs-reads
 
-put-byte-requires : tie.Need-put-byte-requires
+put-byte-requires : tie.Need-put_byte-a-requires
 put-byte-requires c κs = search rules
 
-put-pairs-requires : tie.Need-put-pairs-requires
+put-pairs-requires : tie.Need-put_pairs-b-requires
 put-pairs-requires c κs = search rules
 
-put-byte-requires-2 : tie.Need-put-byte-requires-2
+put-byte-requires-2 : tie.Need-put_byte-requires
 put-byte-requires-2 c κs = search rules
 
-same_length : tie.Need-same-length
+same_length : tie.Need-shape_of-out
 same_length c = search rules
 
 returns : tie.Need-returns
 unfolding event_text
 returns c =
-    let past4 = c.before.before.before.before in
-    let put-pairs-in = past4.before.before in
-    let put-byte-in = put-pairs-in.before.before.before.before in (
-      wrote-append _ _ _ _ _ put-byte-in.put_byte.ensures (wrote-append _ _ _ _ _ put-pairs-in.put-pairs.ensures.0 c.before.before.put-byte2.ensures),
-      let a = put-byte-in.put_byte.ensures.place in let b = c.before.before.put-byte2.ensures.place in omega arith,
+    (
+      wrote-append _ _ _ _ _ c.put_byte-a.ensures (wrote-append _ _ _ _ _ c.put_pairs-b.ensures.0 c.put_byte.ensures),
+      let a = c.put_byte-a.ensures.place in let b = c.put_byte.ensures.place in omega arith,
     )
 
-pub put-text-spec : {M : Type 1} → statement M
-put-text-spec =
+pub put_text_spec : {M : Type 1} → statement M
+put_text_spec =
     tie.close
-    (tie.spec put-byte-requires put-pairs-requires put-byte-requires-2 same_length returns)
+    (tie.spec
+    put-byte-requires
+    put-pairs-requires
+    put-byte-requires-2
+    same_length
+    returns)

@@ -4,13 +4,15 @@ use Rattle.lookup.specs.Modifiers.{remove_only_ctrl}
 use Rattle.lookup.proofs.keyboard_layout.WindowsModifiers.remove_only_ctrl.Statement.{statement}
 use Rattle.lookup.proofs.keyboard_layout.WindowsModifiers.remove_only_ctrl.Tie as tie
 
-returns : tie.Need-returns
+returns : tie.Need-returns-then-self
 unfolding remove_only_ctrl
-returns c = rw c.if1.true
+returns c = rw c.if-self.true
 
-returns-2 : tie.Need-returns-2
+returns-2 : tie.Need-returns
 unfolding remove_only_ctrl
-returns-2 c = rw c.if1.false
+returns-2 c = rw c.if-self.false
 
-pub remove-only-ctrl-spec : {M : Type 1} → statement M
-remove-only-ctrl-spec = tie.close (tie.spec returns returns-2)
+pub remove_only_ctrl_spec : {M : Type 1} → statement M
+remove_only_ctrl_spec = tie.close (tie.spec
+    returns
+    returns-2)
