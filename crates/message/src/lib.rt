@@ -70,7 +70,7 @@ pub fn finish(
     token: PendingMessageToken,
     peeked: Peeked,
 ) -> FinishAnswer
-    ensures* { λ r. ⌜ ((result : ProcResult) → left (finish_said r) result session.new answers.new ≡ finish_of session.old answers.old result (inputs state.now block.now table.now) token.0 (as_peeked peeked)) ⌝ }
+    ensures { (was : ProcResult) → left (finish_said result) was session.new answers.new ≡ finish_of session.old answers.old was (inputs state.now block.now table.now) token.0 (as_peeked peeked) }
 {
     let early = questions::ask_areas(session, answers, state, block, table);
     if let Asked::Failed(no) = early {

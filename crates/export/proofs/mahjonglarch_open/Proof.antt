@@ -28,7 +28,7 @@ same-length-2 c = search rules
 returns : tie.Need-returns
 returns c =
     let a = c.args in
-    open_says _ _ _ (message a.kind a.wparam a.lparam) c.«open».ensures refl refl c.open_number.ensures
+    open_says _ _ _ (message a.kind a.wparam a.lparam) c.open-a.ensures refl refl c.open_number.ensures
     c.token_number.ensures c.result_number.ensures
 
 pub mahjonglarch_open_spec : {M : Type 1} → statement M

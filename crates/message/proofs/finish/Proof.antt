@@ -22,7 +22,7 @@ given c = c.before.before.before.before.before.before.before.before.before.befor
 done-in :
     (c : tie.After-finish_open) →
     let a = c.args in
-    Does (finished_by (decode a.session.now) (keyboard_at a.state.now a.block.now) (table_of a.table.now) a.token.0 (seen (as_peeked a.peeked))) c.finish_open.new.0 c.finish_open.new.1.0
+    Does (finished_by (decode a.session.now) (keyboard_at a.state.now a.block.now) (table_of a.table.now) a.token.0 (seen (as_peeked a.peeked))) c.finish_open.new.session c.finish_open.new.answers
 done-in c = let a = c.args in told_done _ _ _ a.token.0 (seen (as_peeked a.peeked)) c.finish_open.ensures (refl, c.seen-seen.ensures)
 
 ask-areas-requires : tie.Need-ask_areas-early-requires

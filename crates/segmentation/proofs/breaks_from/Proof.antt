@@ -35,8 +35,7 @@ text-fits c = omega arith
 -- the scalar value, and that it lies within the bytes
 found_in :
     (c : tie.In-Scalar invariant-loop decreases-loop) →
-    let g = c.step-1.given in
-    utf8_step (drop c.loop-i.i c.args.text.now) ≡ Scalar g.0.0 g.0.1.0
+    utf8_step (drop c.loop-i.i c.args.text.now) ≡ Scalar c.in-Scalar.scalar c.in-Scalar.n
 found_in c = sym c.utf8_step-step.ensures ∙ c.in-Scalar.is
 
 fits_in :

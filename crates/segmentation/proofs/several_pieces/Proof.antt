@@ -11,8 +11,7 @@ use Rattle.segmentation.proofs.several_pieces.Tie as tie
 -- the scalar value that the first step found
 found_in :
     (c : tie.In-Scalar) →
-    let g = c.step-1.given in
-    utf8_step c.args.text.now ≡ Scalar g.0.0 g.0.1.0
+    utf8_step c.args.text.now ≡ Scalar c.in-Scalar.scalar c.in-Scalar.n
 found_in c = sym c.utf8_step-step.ensures ∙ c.in-Scalar.is
 
 utf8-step-requires : tie.Need-utf8_step-step-requires

@@ -1,7 +1,6 @@
 -- `event::character::last_text` meets its contract.
 -- Assumes nothing.
 use mathlib.Core.Path.{◌≡◌, refl, ◌∙◌}
-use Rattle.area.proofs.Args.{args}
 use Rattle.lookup.specs.Layout.{key_in}
 use Rattle.session.specs.Builder.{layout_key, control_counts}
 use Rattle.event.specs.Written.{keyboard_at}
@@ -30,7 +29,7 @@ counted-in :
     let a = c.args in control_counts (keyboard_at a.state.now a.block.now) ≡ c.control_counts.result
 counted-in c =
     let a = c.args in
-    counted a.block.now a.state.now (args c.control_counts).0 c.active_modifiers-mods.ensures
+    counted a.block.now a.state.now c.has_alt_graph-alt_graph.result c.active_modifiers-mods.ensures
     c.has_alt_graph-alt_graph.ensures c.control_counts.ensures (refl, refl)
 
 layout-in :

@@ -14,7 +14,7 @@ abbrev decreases-loop : tie.decreases-loop-k
 decreases-loop fields₀ numbers k₀ fields k = FIELDS - k
 
 loop-holds : tie.Need-loop-k-init invariant-loop decreases-loop
-loop-holds c = put-start c.args.t2 c.args.fields.now (search rules)
+loop-holds c = put-start c.args.numbers c.args.fields.now (search rules)
 
 mul-fields : tie.Need-offset_bounds-numbers-k invariant-loop decreases-loop
 mul-fields c = search rules

@@ -32,7 +32,7 @@ returns c = sym (ap code_native c.in-Unidentified.is)
 
 returns-2 : tie.Need-returns-in_default
 returns-2 c =
-    let h = at_least (code_cases - 1) 1 _ c.MATCH.keys2 in
+    let h = at_least (code_cases - 1) 1 _ c.in_default.in_default-own.keys2 in
     let t = number_is_tag c.args.c in
     sym (native_plain c.args.c (omega arith))
 

@@ -59,7 +59,7 @@ returns-4 c = told c.in-Gtk.is
 returns-5 : tie.Need-returns-in-Android
 unfolding native_kind native_value
 returns-5 c =
-    let f = Fits-of_z {w = w32} {z = c.in-Android.z} (record { sfits = c.known_told-in-Android-1.given.0.1 }) in
+    let f = Fits-of_z {w = w32} {z = c.in-Android.z} (record { sfits = c.in-Android.known_told-in-Android-1-own.given.0.1 }) in
     let h = told c.in-Android.is in
     (h.0, c.bits_of.ensures ∙ of_z-to_z f ∙ h.1)
 

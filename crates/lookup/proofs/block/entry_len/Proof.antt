@@ -53,11 +53,11 @@ len-told :
 len-told c = cc (c.get_u16-number.ensures, c.len_ok.ensures)
 
 text-told :
-    (c : tie.After-well-formed) →
-    let l = (start6 c.before.before).args.l.now in well_formed (entry_text l) ≡ c.well-formed-2.result
+    (c : tie.After-well_formed-2) →
+    let l = (start6 c.before.before).args.l.now in well_formed (entry_text l) ≡ c.well_formed-2.result
 text-told c =
     let l = (start6 c.before.before).args.l.now in
-    sym (c.well-formed-2.ensures ∙ ap (λ (n : ℕ). well_formed (take n (drop ENTRY_HEAD l))) (part_size (len_of l)))
+    sym (c.well_formed-2.ensures ∙ ap (λ (n : ℕ). well_formed (take n (drop ENTRY_HEAD l))) (part_size (len_of l)))
 
 -- ---- what is known behind each test
 

@@ -8,7 +8,6 @@ use Prim.Native.Nat.{ℕ, ◌<◌}
 use native.Mathlib.Omega.{arith}
 use lib.ListN.{get_or}
 use borrow.Author.Rules.{rules}
-use Rattle.area.proofs.Args.{args}
 use Rattle.segmentation.specs.Layout.{table_of}
 use Rattle.session.specs.Event.{Event}
 use Rattle.session.specs.Session.{character, event_fits}
@@ -60,7 +59,7 @@ Asked c v =
 
 asked_in : (c : tie.After-completes) (v : Bool) → c.completes.result ≡ v → Asked c v
 asked_in c v e =
-    told_completes _ c.args.peeked (args c.completes).0 (args c.completes).1.0 c.completes.ensures e (c.header_at-head.ensures.1, refl)
+    told_completes _ c.args.peeked c.header_at-head.result.held c.args.peeked c.completes.ensures e (c.header_at-head.ensures.1, refl)
 
 both-in :
     (c : tie.Then-completes) →
@@ -104,7 +103,7 @@ none-stands c = same_place _ none _ _ (none-area c) c.requires.0.stands
 event-in :
     (c : tie.After-forget_held) →
     let a = c.args in
-    EventStands a.place (char-in c.before.before.before.before.before.before.before.before.before) (none_in c.before.before.before.before.before.before.before.before.before) a.answers.now c.forget_held.new.0 c.put_last.new.1.0
+    EventStands a.place (char-in c.before.before.before.before.before.before.before.before.before) (none_in c.before.before.before.before.before.before.before.before.before) a.answers.now c.forget_held.new.session c.put_last.new.answers
 event-in c =
     unheld_stands _ (bytes-in c.before.before.before.before.before.before.before.before.before.before.before.before.before.before.before.before) (area_in c.before.before.before.before.before.before.before.before.before.before.before.before.before.before.before.before.before) _ _ c.put_last.ensures c.forget_held.ensures
 
@@ -129,8 +128,7 @@ forget-held-requires c κs =
 
 complete-pending-requires : tie.Need-complete_pending-requires
 complete-pending-requires c κs =
-    let then = c in
-    ready _ (none-bytes then) _ _ (none-stands then) (event-in c.before.before.before.before) (start then).before.requires.0.answers
+    ready _ (none-bytes c.before.before.before.before.before.before.before.before.before.before.before.before.before) _ _ (none-stands c.before.before.before.before.before.before.before.before.before.before.before.before.before) (event-in c.before.before.before.before) c.requires.0.answers
 
 same_length : tie.Need-shape_of-session-then-completes
 same_length c = search rules
@@ -140,10 +138,8 @@ same-length-2 c = search rules
 
 returns : tie.Need-returns-then-completes
 returns c =
-    let then = c in
-    let first = (start then).before in
-    finished _ _ _ _ _ _ _ (char_done _ _ _ _ _ (waits_in first) _ (read-in then) (both-in then).1 refl) _ (none-area then).back
-    (c.complete_pending.ensures (none_in then) _ (char-in then) (none-bytes then) (none-stands then) (fits_in then) first.requires.0.answers (event-in c.before.before.before.before.before.before.before.before.before))
+    finished _ _ _ _ _ _ _ (char_done _ _ _ _ _ (waits_in c.before.before.before.before.before.before.before.before.before.before.before.before.before.before.before.before.before.before.before.before.before.before.before.before.before.before) _ (read-in c.before.before.before.before.before.before.before.before.before.before.before.before.before.before.before.before.before.before) (both-in c.before.before.before.before.before.before.before.before.before.before.before.before.before.before.before.before.before.before).1 refl) _ (none-area c.before.before.before.before.before.before.before.before.before.before.before.before.before.before.before.before.before.before).back
+    (c.complete_pending.ensures (none_in c.before.before.before.before.before.before.before.before.before.before.before.before.before.before.before.before.before.before) _ (char-in c.before.before.before.before.before.before.before.before.before.before.before.before.before.before.before.before.before.before) (none-bytes c.before.before.before.before.before.before.before.before.before.before.before.before.before.before.before.before.before.before) (none-stands c.before.before.before.before.before.before.before.before.before.before.before.before.before.before.before.before.before.before) (fits_in c.before.before.before.before.before.before.before.before.before.before.before.before.before.before.before.before.before.before) c.requires.0.answers (event-in c.before.before.before.before.before.before.before.before.before))
 
 remove-pending-requires : tie.Need-remove_pending-requires
 remove-pending-requires c κs = search rules

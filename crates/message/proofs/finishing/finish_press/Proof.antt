@@ -112,13 +112,13 @@ real-in c = told-fake _ _ (c.is_fake.ensures _ _ (key_of _ _)) c.if-is_fake.fals
 
 sets-in :
     (c : tie.After-set_held) →
-    AreaOf (holding (decode c.args.session.now) (some (press_in c.before.before.before.before))) c.set_held.new.0
+    AreaOf (holding (decode c.args.session.now) (some (press_in c.before.before.before.before))) c.set_held.new.session
 sets-in c =
     held-area _ _ (own_in c.before.before.before.before.before.before.before.before.before.before.before.before.before) (short-in c.before.before.before.before) (fits_in c.before.before.before.before) c.set_held.ensures
 
 forgets-in :
     (c : tie.After-forget_held) →
-    AreaOf (holding (decode c.args.session.now) none) c.forget_held.new.0
+    AreaOf (holding (decode c.args.session.now) none) c.forget_held.new.session
 forgets-in c =
     forgotten _ (own_in c.before.before.before.before.before.before.before.before.before.before.before.before.before) (forgot_plainly (bytes-in c.before.before.before.before.before.before.before.before.before.before.before.before.before) (own_in c.before.before.before.before.before.before.before.before.before.before.before.before.before).area c.forget_held.ensures)
 
@@ -185,13 +185,13 @@ forget-held-requires c κs = (own_in c.before.before.before.before.before.before
 is-fake-requires : tie.Need-is_fake-requires
 is-fake-requires c κs = search rules
 
-bytes-forgot : (c : tie.After-is_fake) (i : ℕ) → get_or c.forget_held.new.0 i 0 < 256
+bytes-forgot : (c : tie.After-is_fake) (i : ℕ) → get_or c.forget_held.new.session i 0 < 256
 bytes-forgot c i = omega (arith, c.slice_known-3-1.given i)
 
 -- with no press held the entry stands where it stood
 stands-in :
     (c : tie.After-is_fake) →
-    let a = c.args in StandsAt c.forget_held.new.0 a.token.0 a.place
+    let a = c.args in StandsAt c.forget_held.new.session a.token.0 a.place
 stands-in c = same_place _ none _ _ (forgets-in c.before.before.before) c.requires.stands
 
 remove-pending-requires-2 : tie.Need-remove_pending-requires-then-is_fake

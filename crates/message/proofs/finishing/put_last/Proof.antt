@@ -46,7 +46,7 @@ says-in c =
 -- the press is still held behind the text
 after-in :
     (c : tie.After-put_last_text) →
-    let a = c.args in Completing c.put_last_text.new.0 c.put_last_text.new.1.0 a.place
+    let a = c.args in Completing c.put_last_text.new.session c.put_last_text.new.answers a.place
 after-in c =
     (after-last-text _ (bytes-in c.before.before.before.before.before.before.before.before.before.before.before.before.before.before.before.before.before) c.requires.0 c.put_rest.ensures _ _ c.last_text-last.ensures.1 c.put_last_text.ensures).0
 

@@ -59,7 +59,7 @@ stands-in :
     (c : tie.After-forget_held) →
     let x = c.args.session.now in
     EventStands c.header_at-h.result.count (dead_char_event (held_in x)) (unheld x (bytes-in c.before.before.before.before.before.before.before.before.before.before.before.before) (area_in c.before.before.before.before.before.before.before.before.before.before.before.before.before)) c.args.answers.now
-    c.forget_held.new.0 c.put_dead_event.last.1.0
+    c.forget_held.new.session c.put_dead_event.new.answers
 stands-in c =
     unheld_stands _ (bytes-in c.before.before.before.before.before.before.before.before.before.before.before.before) (area_in c.before.before.before.before.before.before.before.before.before.before.before.before.before) _ _ c.put_dead_event.ensures c.forget_held.ensures
 

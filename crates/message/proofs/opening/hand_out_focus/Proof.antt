@@ -24,7 +24,7 @@ focus-keys-requires c κs = c.requires.1
 loop-holds : tie.Need-loop-i-init invariant-loop decreases-loop
 loop-holds c =
     let a = c.args in
-    (omega arith, handed_none a.block.now a.state.now a.st c.focus_keys-written.result.keys-1 a.answers.now)
+    (omega arith, handed_none a.block.now a.state.now a.st c.focus_keys-written.result.keys a.answers.now)
 
 array-read-synthetic-event : tie.Need-bounds-keys-i invariant-loop decreases-loop
 array-read-synthetic-event c = omega arith
@@ -47,7 +47,7 @@ loop-again : tie.Need-loop-i-preserved invariant-loop decreases-loop
 loop-again c =
     let a = c.args in
     let ok = keyboard_at_ok a.block.now a.state.now (λ i. omega (arith, c.shared_slice_known-2-1.given i)) c.requires.1 in
-    let keys = c.focus_keys-written.result.keys-1 in
+    let keys = c.focus_keys-written.result.keys in
     let m = made_here a.block.now a.state.now a.st _ _ _ keys _ c.loop-i.i c.synthetic_event-e.ensures.0 (refl, refl, refl, omega arith) in (
       omega arith,
       handed-next a.block.now a.state.now a.st ok keys c.loop-i.i (event_in a.block.now c.synthetic_event-e.result) a.answers.now
@@ -69,8 +69,8 @@ returns c =
     let ok = keyboard_at_ok a.block.now a.state.now (λ i. omega (arith, c.shared_slice_known-2-1.given i)) c.requires.1 in
     let e : c.loop-i.i ≡ c.focus_keys-written.result.len = omega arith in
     let r = c.focus_keys-written.result in
-    let k = noted_here a.block.now a.state.now a.st _ _ _ r.keys-1 r.len c.focus_keys-written.ensures (refl, refl, refl) in
-    handed_all a.block.now a.state.now a.st ok r.keys-1 r.len a.answers.now k c.requires.0
+    let k = noted_here a.block.now a.state.now a.st _ _ _ r.keys r.len c.focus_keys-written.ensures (refl, refl, refl) in
+    handed_all a.block.now a.state.now a.st ok r.keys r.len a.answers.now k c.requires.0
     (rw e at c.loop-i.invariant.1) c.close.ensures
 
 pub hand_out_focus_spec : {M : Type 1} → statement M

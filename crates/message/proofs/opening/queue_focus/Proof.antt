@@ -24,7 +24,7 @@ focus-keys-requires c κs = c.requires.1
 loop-holds : tie.Need-loop-i-init invariant-loop decreases-loop
 loop-holds c =
     let a = c.args in
-    (omega arith, none_queued a.block.now a.state.now a.st a.session.now (λ i. omega (arith, c.slice_known-1.given i)) c.requires.0 c.focus_keys-noted.result.keys-1)
+    (omega arith, none_queued a.block.now a.state.now a.st a.session.now (λ i. omega (arith, c.slice_known-1.given i)) c.requires.0 c.focus_keys-noted.result.keys)
 
 array-read-synthetic-event : tie.Need-bounds-keys-i invariant-loop decreases-loop
 array-read-synthetic-event c = omega arith
@@ -38,9 +38,9 @@ add-event-requires c κs =
     let a = c.args in
     let ok = keyboard_at_ok a.block.now a.state.now (λ i. omega (arith, c.shared_slice_known-2-1.given i)) c.requires.1 in
     let r = c.focus_keys-noted.result in
-    let k = noted_here a.block.now a.state.now a.st _ _ _ r.keys-1 r.len c.focus_keys-noted.ensures (refl, refl, refl) in
+    let k = noted_here a.block.now a.state.now a.st _ _ _ r.keys r.len c.focus_keys-noted.ensures (refl, refl, refl) in
     let m = c.synthetic_event-event.ensures in (
-      next_room a.block.now a.state.now a.st a.session.now c.requires.2 c.requires.3 r.keys-1 r.len k
+      next_room a.block.now a.state.now a.st a.session.now c.requires.2 c.requires.3 r.keys r.len k
           c.loop-i.i (omega arith) c.loop-i.invariant.1,
       m.1,
       rw m.0 (event-fits a.block.now a.state.now a.st ok _),
@@ -57,10 +57,10 @@ loop-again c =
     let a = c.args in
     let ok = keyboard_at_ok a.block.now a.state.now (λ i. omega (arith, c.shared_slice_known-2-1.given i)) c.requires.1 in
     let r = c.focus_keys-noted.result in
-    let k = noted_here a.block.now a.state.now a.st _ _ _ r.keys-1 r.len c.focus_keys-noted.ensures (refl, refl, refl) in
-    let m = made_here a.block.now a.state.now a.st _ _ _ r.keys-1 _ c.loop-i.i c.synthetic_event-event.ensures.0 (refl, refl, refl, omega arith) in (
+    let k = noted_here a.block.now a.state.now a.st _ _ _ r.keys r.len c.focus_keys-noted.ensures (refl, refl, refl) in
+    let m = made_here a.block.now a.state.now a.st _ _ _ r.keys _ c.loop-i.i c.synthetic_event-event.ensures.0 (refl, refl, refl, omega arith) in (
       omega arith,
-      next_queued a.block.now a.state.now a.st a.session.now c.requires.2 c.requires.3 r.keys-1 r.len k
+      next_queued a.block.now a.state.now a.st a.session.now c.requires.2 c.requires.3 r.keys r.len k
           c.loop-i.i (omega arith) c.loop-i.invariant.1 ok (event_in a.block.now c.synthetic_event-event.result) m c.add_event.ensures,
     )
 
@@ -73,8 +73,8 @@ returns c =
     let a = c.args in
     let e : c.loop-i.i ≡ c.focus_keys-noted.result.len = omega arith in
     let r = c.focus_keys-noted.result in
-    let k = noted_here a.block.now a.state.now a.st _ _ _ r.keys-1 r.len c.focus_keys-noted.ensures (refl, refl, refl) in
-    all_queued a.block.now a.state.now a.st a.session.now r.keys-1 r.len k (rw e at c.loop-i.invariant.1)
+    let k = noted_here a.block.now a.state.now a.st _ _ _ r.keys r.len c.focus_keys-noted.ensures (refl, refl, refl) in
+    all_queued a.block.now a.state.now a.st a.session.now r.keys r.len k (rw e at c.loop-i.invariant.1)
 
 pub queue_focus_spec : {M : Type 1} → statement M
 queue_focus_spec =

@@ -47,7 +47,7 @@ well-formed-requires c κs = search rules
 returns-3 : tie.Need-returns
 returns-3 c =
     text_end _ _ c.if-most-n.false c.requires _ c.zero_part.ensures (not-false _ c.if-not-zero_part.false-raw) _
-    c.well-formed-2.ensures
+    c.well_formed-2.ensures
 
 pub text_ok_spec : {M : Type 1} → statement M
 text_ok_spec =

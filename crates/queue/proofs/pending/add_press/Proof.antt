@@ -29,7 +29,7 @@ same_length c = search rules
 returns : tie.Need-returns
 returns c =
     let a = c.args in
-    opened a.session.now (λ i. omega (arith, c.slice_known-1.given i)) c.requires (press a.vkey a.l) (press_fits a.vkey a.l (omega (arith, c.ranges.vkey)) (omega (arith, c.well-formed))) c.put_press.ensures c.count_one.ensures
+    opened a.session.now (λ i. omega (arith, c.slice_known-1.given i)) c.requires (press a.vkey a.l) (press_fits a.vkey a.l (omega (arith, c.ranges.vkey)) (omega (arith, c.well_formed))) c.put_press.ensures c.count_one.ensures
     c.header_at-h.ensures.2 c.header_at-h.ensures.0 c.next_place.ensures refl refl
 
 pub add_press_spec : {M : Type 1} → statement M

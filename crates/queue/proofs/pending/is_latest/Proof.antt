@@ -73,9 +73,9 @@ loop-less c = omega arith
 loop-again : tie.Need-loop-i-preserved invariant-loop decreases-loop
 loop-again c =
     ⊎_elim
-    (λ h. latest_open _ _ _ _ c.loop-i.invariant (one_of c.before.before) (omega arith) h.1.ensures h.3)
-    (λ h. latest-same _ _ _ _ c.loop-i.invariant (one_of c.before.before) (λ e. omega arith) h.1)
-    c.if-session-i-eq0.branch
+    (λ h. latest_open _ _ _ _ c.loop-i.invariant (one_of c.before.before) (omega arith) h.get_u16-latest.ensures h.latest-is)
+    (λ h. latest-same _ _ _ _ c.loop-i.invariant (one_of c.before.before) (λ e. omega arith) h.latest-is)
+    c.if-session-i-eq0.branch-raw
 
 returns : tie.Need-returns invariant-loop decreases-loop
 returns c =

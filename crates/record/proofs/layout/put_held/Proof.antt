@@ -41,7 +41,7 @@ same_length c = search rules
 returns : tie.Need-returns
 returns c =
     let a = c.args in
-    held-written (record { c = info_in a.block.now a.n; c = a.vkey; c = a.mark; units = [] }) a.at a.s.now
+    held-written (record { info = info_in a.block.now a.n; vkey = a.vkey; mark = a.mark; units = [] }) a.at a.s.now
     (info-length a.block.now a.n c.requires.1) refl c.put_u8.ensures c.put_info.ensures c.put_u16.ensures
     c.put_flag.ensures c.put_zeros.ensures refl refl refl refl refl refl
 

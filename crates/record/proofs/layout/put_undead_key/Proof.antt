@@ -32,7 +32,7 @@ enum-known-key c = search rules
 put-scalar-key-requires : tie.Need-put_scalar_key-requires
 put-scalar-key-requires c κs =
     let a = c.args in
-    (search rules, scalar_in a.k.key-1 (part_of a.block.now a.k) _ c.requires.1 c.in-DeadChar.is)
+    (search rules, scalar_in a.k.key (part_of a.block.now a.k) _ c.requires.1 c.in-DeadChar.is)
 
 enum-told-2 : tie.Need-enum_told-in-Character
 enum-told-2 c = search rules
@@ -59,7 +59,7 @@ returns : tie.Need-returns-in-Dead
 returns c =
     let a = c.args in
     let p = part_of a.block.now a.k in
-    key_as KEY_TEXT_MOST a.at a.s.now (undead_none a.k.key-1 p c.in-Dead.is) c.put_with.ensures
+    key_as KEY_TEXT_MOST a.at a.s.now (undead_none a.k.key p c.in-Dead.is) c.put_with.ensures
 
 same-length-2 : tie.Need-shape_of-s-in-DeadChar
 same-length-2 c = search rules
@@ -68,7 +68,7 @@ returns-2 : tie.Need-returns-in-DeadChar
 returns-2 c =
     let a = c.args in
     let p = part_of a.block.now a.k in
-    key_as KEY_TEXT_MOST a.at a.s.now (undead_some a.k.key-1 p _ c.in-DeadChar.is) c.put_scalar_key.ensures
+    key_as KEY_TEXT_MOST a.at a.s.now (undead_some a.k.key p _ c.in-DeadChar.is) c.put_scalar_key.ensures
 
 same-length-3 : tie.Need-shape_of-s-in-Character
 same-length-3 c = search rules
@@ -78,7 +78,7 @@ unfolding full undead
 returns-3 c =
     let a = c.args in
     let p = part_of a.block.now a.k in
-    key_as KEY_TEXT_MOST a.at a.s.now (undead-same a.k.key-1 _ p c.in-Character.is refl) c.put_key.ensures
+    key_as KEY_TEXT_MOST a.at a.s.now (undead-same a.k.key _ p c.in-Character.is refl) c.put_key.ensures
 
 same-length-4 : tie.Need-shape_of-s-in-Named
 same-length-4 c = search rules
@@ -88,7 +88,7 @@ unfolding full undead
 returns-4 c =
     let a = c.args in
     let p = part_of a.block.now a.k in
-    key_as KEY_TEXT_MOST a.at a.s.now (undead-same a.k.key-1 _ p c.in-Named.is refl) c.put_key-in-Named.ensures
+    key_as KEY_TEXT_MOST a.at a.s.now (undead-same a.k.key _ p c.in-Named.is refl) c.put_key-in-Named.ensures
 
 same-length-5 : tie.Need-shape_of-s-in-Unidentified
 same-length-5 c = search rules
@@ -98,7 +98,7 @@ unfolding full undead
 returns-5 c =
     let a = c.args in
     let p = part_of a.block.now a.k in
-    key_as KEY_TEXT_MOST a.at a.s.now (undead-same a.k.key-1 _ p c.in-Unidentified.is refl) c.put_key-in-Unidentified.ensures
+    key_as KEY_TEXT_MOST a.at a.s.now (undead-same a.k.key _ p c.in-Unidentified.is refl) c.put_key-in-Unidentified.ensures
 
 pub put_undead_key_spec : {M : Type 1} → statement M
 put_undead_key_spec =

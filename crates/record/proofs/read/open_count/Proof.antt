@@ -37,8 +37,8 @@ loop-less c = omega arith
 loop-again : tie.Need-loop-i-preserved invariant-loop decreases-loop
 loop-again c =
     let inv = c.loop-i.invariant in
-    ⊎_elim (λ h. opens-more _ _ _ _ inv c.loop-i-test.true h.0.taken h.1)
-    (λ h. opens-same _ _ _ _ inv c.loop-i-test.true h.0.left h.1) c.if-s-i-eq0.branch
+    ⊎_elim (λ h. opens-more _ _ _ _ inv c.loop-i-test.true h.if-s-i-eq0.true h.open-is)
+    (λ h. opens-same _ _ _ _ inv c.loop-i-test.true h.if-s-i-eq0.false h.open-is) c.if-s-i-eq0.branch-raw
 
 returns : tie.Need-returns invariant-loop decreases-loop
 returns c = opens_end _ _ _ _ c.loop-i.invariant c.loop-i-test.false

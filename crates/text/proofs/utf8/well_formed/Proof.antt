@@ -28,8 +28,7 @@ start c = c.before.before.before.before
 -- the scalar value, and that it lies within the bytes
 found_in :
     (c : tie.In-Scalar invariant-loop decreases-loop) →
-    let g = c.step-1.given in
-    utf8_step (drop c.loop-i.i c.args.t.now) ≡ Scalar g.0.0 g.0.1.0
+    utf8_step (drop c.loop-i.i c.args.t.now) ≡ Scalar c.in-Scalar.field-0 c.in-Scalar.n
 found_in c = sym c.utf8_step-step.ensures ∙ c.in-Scalar.is
 
 fits_in :
