@@ -73,7 +73,7 @@ loop-less c = omega arith
 loop-again : tie.Need-loop-i-preserved invariant-loop decreases-loop
 loop-again c =
     ⊎_elim
-    (λ h. latest_open _ _ _ _ c.loop-i.invariant (one_of c.before.before) (omega arith) h.get_u16-latest.ensures h.latest-is)
+    (λ h. latest_open _ _ _ _ c.loop-i.invariant (one_of c.before.before) (omega arith) h.get_u16.ensures h.latest-is)
     (λ h. latest-same _ _ _ _ c.loop-i.invariant (one_of c.before.before) (λ e. omega arith) h.latest-is)
     c.if-session-i-eq0.branch-raw
 
