@@ -26,7 +26,7 @@ add-put-digits c = search rules
 put-digits-requires : tie.Need-put_digits-requires
 put-digits-requires c κs =
     let l = numeral_20 c.args.base c.args.v (omega arith) (search rules) in
-    (omega arith, omega arith, c.width_of_lem.ensures, rw length-set (omega (arith, c.width_of_lem.ensures)))
+    (omega arith, omega arith, c.width_of-k.ensures, rw length-set (omega (arith, c.width_of-k.ensures)))
 
 add-result : tie.Need-overflow_add-result
 add-result c = search rules
@@ -34,16 +34,16 @@ add-result c = search rules
 add-result-2 : tie.Need-overflow_add-result-2
 add-result-2 c =
     let l = numeral_20 c.args.base c.args.v (omega arith) (search rules) in
-    omega (arith, c.width_of_lem.ensures)
+    omega (arith, c.width_of-k.ensures)
 
 same_length : tie.Need-shape_of-out
 same_length c =
-    c.put_digits.auto.0 ∙ length-set c.args.out.now c.args.at 44
+    c.put_digits.auto.out ∙ length-set c.args.out.now c.args.at 44
 
 returns : tie.Need-returns
 returns c =
     let l = numeral_20 c.args.base c.args.v (omega arith) (search rules) in
-    (wrote_cons _ _ _ _ _ c.put_digits.ensures c.width_of_lem.ensures, omega (arith, c.width_of_lem.ensures))
+    (wrote_cons _ _ _ _ _ c.put_digits.ensures c.width_of-k.ensures, omega (arith, c.width_of-k.ensures))
 
 pub put_field_spec : {M : Type 1} → statement M
 put_field_spec =
