@@ -1,4 +1,5 @@
 // The C interface: the calls on numbers and slices. include/mahjonglarch.h says the same to a host.
+#![tactic(auto)]
 mod events;
 pub mod numbers;
 
