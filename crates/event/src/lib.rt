@@ -2,6 +2,7 @@
 // stands in the lent block, and what completes a held press says where text and logical key come from. The queue is not known here.
 // SCOPE and a number is a clause of docs/SCOPE.md.
 #![tactic(auto)]
+
 pub mod character;
 mod fake;
 pub mod focus;

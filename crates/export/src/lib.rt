@@ -1,5 +1,6 @@
 // The C interface: the calls on numbers and slices. include/mahjonglarch.h says the same to a host.
 #![tactic(auto)]
+
 mod events;
 pub mod numbers;
 

@@ -1,5 +1,6 @@
 // Native key codes, key locations and keys (tao's keyboard.rs).
 #![tactic(auto)]
+
 pub mod key_code;
 pub mod key_number;
 pub mod native_code;

@@ -1,6 +1,7 @@
 // tao's KeyEventBuilder::process_message, cut at its peek: open takes a message, finish what was peeked (SCOPE 2.2; SCOPE and a number is a
 // clause of docs/SCOPE.md).
 #![tactic(auto)]
+
 mod finishing;
 mod opening;
 pub mod process_message;

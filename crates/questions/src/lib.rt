@@ -1,6 +1,7 @@
 // The questions that a call is put through (SCOPE 6; SCOPE and a number is a clause of docs/SCOPE.md): 1 to 3, 11 and 4 put to every call, 5 to 9
 // to calls that bring a message, 10 to finishes. Nothing here takes an area by `&mut`, so a refused call changes no byte.
 #![tactic(auto)]
+
 pub mod check;
 pub mod sorts;
 

@@ -1,6 +1,7 @@
 // Text segmentation: extended grapheme clusters of Unicode Annex 29, by a lent table of break classes. tao counts them by the crate
 // unicode-segmentation. SCOPE and a number is a clause of docs/SCOPE.md.
 #![tactic(auto)]
+
 pub mod break_table;
 pub mod grapheme;
 

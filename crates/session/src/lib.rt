@@ -1,6 +1,7 @@
 // What the calls answer, as types: key events, the held press, tokens, message results, refusals. No code runs here;
 // specs/ says what open and finish answer. SCOPE and a number is a clause of docs/SCOPE.md.
 #![tactic(auto)]
+
 use keys::key_code::KeyCode;
 use keys::{KeyLocation, KeyText};
 use lookup::keyboard_layout::LayoutKey;

@@ -82,9 +82,10 @@ same-length-6 c = search rules
 
 returns-3 : tie.Need-returns
 returns-3 c =
+    let finish_open = c.before.before.before.before in
     λ result.
     finish-passed _ _ _ _ _ result _ _ c.ask_areas-early.ensures c.in_default.is c.ask_finish-late.ensures c.in_default-late.is
-    (done-in c.before.before.before.before)
+    (done-in finish_open)
 
 pub finish_spec : {M : Type 1} → statement M
 finish_spec =

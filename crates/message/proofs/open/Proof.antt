@@ -104,7 +104,8 @@ same-length-6 c = search rules
 
 returns-3 : tie.Need-returns
 returns-3 c =
-    open_passed _ _ _ _ _ _ _ c.ask_areas-early.ensures c.in_default.is _ c.sort_of-sort.ensures (late-in c.before.before.before.before.before.before.before.before.before.before.before)
+    let ask_message = c.before.before.before.before.before.before.before.before.before.before.before in
+    open_passed _ _ _ _ _ _ _ c.ask_areas-early.ensures c.in_default.is _ c.sort_of-sort.ensures (late-in ask_message)
     c.in_default-late.is c.result_after-after.result (c.result_after-after.ensures _ _ _ (sym c.header_at-h.ensures.1))
     (c.open_by-answer.ensures _) c.answered-2.ensures refl
 

@@ -75,16 +75,21 @@ next-requires c κs = search rules
 
 add-i : tie.Need-overflow_add-i invariant-loop decreases-loop
 add-i c =
-    let f = fits_in c.before.before.before.before in omega (arith, text-fits c.before.before.before.before.before.before.before.before.before.before)
+    let scalar = c.before.before.before.before in
+    let start_at = scalar.before.before.before.before.before.before in
+    let f = fits_in scalar in omega (arith, text-fits start_at)
 
 loop-less : tie.Need-loop-i-smaller invariant-loop decreases-loop
 loop-less c =
-    let f = fits_in c.before.before.before.before in omega (arith, text-fits c.before.before.before.before.before.before.before.before.before.before)
+    let scalar = c.before.before.before.before in
+    let start_at = scalar.before.before.before.before.before.before in
+    let f = fits_in scalar in omega (arith, text-fits start_at)
 
 loop-again : tie.Need-loop-i-preserved invariant-loop decreases-loop
 loop-again c =
+    let scalar = c.before.before.before.before in
     c.loop-i.invariant
-    ∙ turn _ _ c.loop-i.i _ _ (found_in c.before.before.before.before) _ c.props_at-p.ensures c.loop-i.behind _ c.breaks.ensures c.if-breaks.false _ c.next-behind.ensures
+    ∙ turn _ _ c.loop-i.i _ _ (found_in scalar) _ c.props_at-p.ensures c.loop-i.behind _ c.breaks.ensures c.if-breaks.false _ c.next-behind.ensures
 
 returns-3 : tie.Need-returns invariant-loop decreases-loop
 returns-3 c =

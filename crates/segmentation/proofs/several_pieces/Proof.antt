@@ -40,7 +40,8 @@ returns-2 c = several_bad _ _ (sym c.utf8_step-step.ensures ∙ c.in-Bad.is)
 
 returns-3 : tie.Need-returns-else-text-n
 returns-3 c =
-    several_first _ _ _ _ (found_in c.before.before.before.before) _ c.props_at-p.ensures _ c.first.ensures _ c.breaks_from.ensures
+    let scalar = c.before.before.before.before in
+    several_first _ _ _ _ (found_in scalar) _ c.props_at-p.ensures _ c.first.ensures _ c.breaks_from.ensures
 
 pub several_pieces_spec : {M : Type 1} → statement M
 several_pieces_spec =

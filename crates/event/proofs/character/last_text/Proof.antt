@@ -66,8 +66,9 @@ to-text-requires c κs = tt
 
 returns : tie.Need-returns-then-control_counts
 returns c =
+    let control_counts_at = c.before.before.before.before.before in
     let a = c.args in
-    layout_gives a.block.now a.state.now a.vkey a.scancode (counted-in c.before.before.before.before.before ∙ c.if-control_counts.true) _ _ (layout-in c.before)
+    layout_gives a.block.now a.state.now a.vkey a.scancode (counted-in control_counts_at ∙ c.if-control_counts.true) _ _ (layout-in c.before)
     c.layout_key-k.ensures.1 c.to_text-text.ensures refl
 
 returns-2 : tie.Need-returns

@@ -63,8 +63,9 @@ get-location-requires c κs = c.requires
 
 returns : tie.Need-returns
 returns c =
+    let layout_key = c.before.before.before.before in
     let a = c.args in
-    whole a.block.now a.state.now a.vk a.st _ _ _ c.scancode_for-scancode.ensures (logical-in c.before.before.before.before) (plain_in c.before.before.before) c.focus_text-text.ensures
+    whole a.block.now a.state.now a.vk a.st _ _ _ c.scancode_for-scancode.ensures (logical-in layout_key) (plain_in c.before.before.before) c.focus_text-text.ensures
     c.keycode_from_scancode-physical_key.ensures c.get_location-location.ensures c.layout_key-logical_key.ensures.1 c.layout_key-key_without_modifiers.ensures.1
     (refl, refl, refl, refl, refl) _ refl
 

@@ -85,8 +85,9 @@ layout-key-requires-2 c κs = c.requires
 
 returns-2 : tie.Need-returns
 returns-2 c =
+    let forced_key = c.before.before.before.before.before in
     let a = c.args in
-    by_layout a.block.now a.state.now a.vkey a.l c.forced_key-forced.result (known_in c.before.before.before.before.before) c.if-forced-ne0.false _ _
+    by_layout a.block.now a.state.now a.vkey a.l c.forced_key-forced.result (known_in forced_key) c.if-forced-ne0.false _ _
     (logical-in c.before, c.layout_key-logical_key.ensures.1) (plain_in c, c.layout_key-key_without_modifiers.ensures.1)
 
 pub from_message_spec : {M : Type 1} → statement M

@@ -61,14 +61,17 @@ numbers-at-requires c κs =
     event-bytes _ a.i a.fields.now c.is_event.ensures (not-false _ c.if-not-is_event.false-raw) refl
 
 put-numbers-requires : tie.Need-put_numbers-requires
-put-numbers-requires c κs = all-fields c.before.before.before.before.before
+put-numbers-requires c κs =
+    let else_at = c.before.before.before.before.before in
+    all-fields else_at
 
 same_length : tie.Need-shape_of-fields
 same_length c = search rules
 
 returns-3 : tie.Need-returns
 returns-3 c =
-    event-fields _ _ _ c.is_event.ensures (not-false _ c.if-not-is_event.false-raw) refl (all-fields c.before.before.before.before.before.before.before.before)
+    let else_at = c.before.before.before.before.before.before.before.before in
+    event-fields _ _ _ c.is_event.ensures (not-false _ c.if-not-is_event.false-raw) refl (all-fields else_at)
     c.numbers_at-numbers.ensures c.put_numbers.ensures
 
 pub read_event_spec : {M : Type 1} → statement M

@@ -81,15 +81,17 @@ cast-copy-part c = search rules
 
 copy-part-requires : tie.Need-copy_part-requires
 copy-part-requires c κs =
-    ((bytes-in c.before).1, omega (arith, (bytes-in c.before).0, long-enough c.before.before.before.before.before.before))
+    let else_at = c.before.before.before.before.before.before in
+    ((bytes-in c.before).1, omega (arith, (bytes-in c.before).0, long-enough else_at))
 
 same_length : tie.Need-shape_of-text
 same_length c = search rules
 
 returns-4 : tie.Need-returns
 returns-4 c =
+    let else_at = c.before.before.before.before.before.before.before.before.before in
     event-text _ _ _ c.is_event.ensures (not-false _ c.if-not-is_event.false-raw) c.if-which-gt3.false c.text_place.ensures
-    c.wide-n.ensures.0 _ (long-enough c.before.before.before.before.before.before.before.before.before) c.copy_part.ensures refl
+    c.wide-n.ensures.0 _ (long-enough else_at) c.copy_part.ensures refl
 
 pub read_text_spec : {M : Type 1} → statement M
 read_text_spec =

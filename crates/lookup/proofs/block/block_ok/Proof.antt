@@ -55,14 +55,16 @@ table-ok-requires c κs = search rules
 
 returns-5 : tie.Need-returns-then-not-table_ok
 returns-5 c =
-    no_table _ (header-in c.before.before.before.before) (gap-in c.before.before) _ c.table_ok.ensures (not-true _ c.if-not-table_ok.true-raw)
+    let else_at = c.before.before.before.before in
+    no_table _ (header-in else_at) (gap-in c.before.before) _ c.table_ok.ensures (not-true _ c.if-not-table_ok.true-raw)
 
 lists-ok-requires : tie.Need-lists_ok-requires
 lists-ok-requires c κs = search rules
 
 returns-6 : tie.Need-returns
 returns-6 c =
-    by_lists _ (header-in c.before.before.before.before.before) (gap-in c.before.before.before) _ c.table_ok.ensures (not-false _ c.if-not-table_ok.false-raw) _ c.lists_ok.ensures
+    let else_at = c.before.before.before.before.before in
+    by_lists _ (header-in else_at) (gap-in c.before.before.before) _ c.table_ok.ensures (not-false _ c.if-not-table_ok.false-raw) _ c.lists_ok.ensures
 
 pub block_ok_spec : {M : Type 1} → statement M
 block_ok_spec =

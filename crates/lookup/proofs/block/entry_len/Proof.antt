@@ -68,7 +68,9 @@ keyed-in : (c : tie.Else-not-list_key_ok) → let a = c.args in Keyed (list_key_
 keyed-in c = (headed-in c.before.before, key-told c.before ∙ not-false _ c.if-not-list_key_ok.false-raw)
 
 filled_in : (c : tie.Else-not-key_ok) → let a = c.args in Filled (list_key_ok a.by_vkey) a.lo a.l.now
-filled_in c = (keyed-in c.before.before.before.before.before, fields_told c.before ∙ not-false _ c.if-not-key_ok.false-raw)
+filled_in c =
+    let else_at = c.before.before.before.before.before in
+    (keyed-in else_at, fields_told c.before ∙ not-false _ c.if-not-key_ok.false-raw)
 
 sized-in : (c : tie.Else-not-len_ok) → let a = c.args in Sized (list_key_ok a.by_vkey) a.lo a.l.now
 sized-in c = (filled_in c.before.before.before, len-told c.before ∙ not-false _ c.if-not-len_ok.false-raw)
@@ -107,7 +109,8 @@ key-ok-requires c κs = search rules
 
 returns-4 : tie.Need-returns-then-not-key_ok
 returns-4 c =
-    no_fields _ _ _ (keyed-in c.before.before.before.before.before) (fields_told c.before ∙ not-true _ c.if-not-key_ok.true-raw)
+    let else_at = c.before.before.before.before.before in
+    no_fields _ _ _ (keyed-in else_at) (fields_told c.before ∙ not-true _ c.if-not-key_ok.true-raw)
 
 shared-slice-read-len-ok : tie.Need-bounds-l-11
 shared-slice-read-len-ok c = search rules

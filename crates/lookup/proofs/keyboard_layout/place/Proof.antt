@@ -48,16 +48,24 @@ returns c =
     walk_hit _ _ _ _ _ _ _ c.loop-left.invariant c.loop-left-test.true _ c.get_u64-k.ensures c.if-k-key.true
 
 shared-slice-read-at : tie.Need-bounds-l-11 invariant-loop decreases-loop
-shared-slice-read-at c = let s = entry_in c.before.before.before.before in omega arith
+shared-slice-read-at c =
+    let turn = c.before.before.before.before in
+    let s = entry_in turn in omega arith
 
 cast-at : tie.Need-overflow_cast-at invariant-loop decreases-loop
-cast-at c = let s = entry_in c.before.before.before.before in omega arith
+cast-at c =
+    let turn = c.before.before.before.before in
+    let s = entry_in turn in omega arith
 
 add_at : tie.Need-overflow_add-at invariant-loop decreases-loop
-add_at c = let s = entry_in c.before.before.before.before in omega arith
+add_at c =
+    let turn = c.before.before.before.before in
+    let s = entry_in turn in omega arith
 
 add-at-2 : tie.Need-overflow_add-at-in-loop-left invariant-loop decreases-loop
-add-at-2 c = let s = entry_in c.before.before.before.before in omega arith
+add-at-2 c =
+    let turn = c.before.before.before.before in
+    let s = entry_in turn in omega arith
 
 sub-left : tie.Need-overflow_sub-left invariant-loop decreases-loop
 sub-left c = omega arith

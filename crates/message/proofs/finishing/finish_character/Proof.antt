@@ -73,7 +73,9 @@ abbrev start : tie.Then-completes → tie.After-slice_known-1
 start c = c.before.before.before.before.before.before.before
 
 read-in : (c : tie.Then-completes) → let x = c.args.session.now in (decode x).held ≡ some (held_in x)
-read-in c = held_there _ (area_in c.before.before.before.before.before.before.before.before) (both-in c).0
+read-in c =
+    let start_at = c.before.before.before.before.before.before.before.before in
+    held_there _ (area_in start_at) (both-in c).0
 
 -- its event, which is in range
 abbrev char-in : tie.Then-completes → Event
@@ -82,19 +84,31 @@ char-in c =
 
 fits_in : (c : tie.Then-completes) → event_fits (char-in c) ≡ true
 fits_in c =
-    let f = held_fits_lem _ (area_in c.before.before.before.before.before.before.before.before) (both-in c).0 (bytes-in c.before.before.before.before.before.before.before) in
-    let board = keyboard_at_ok _ c.args.state.now (block_in c.before.before.before.before) c.requires.0.block-ok in
+    let known = c.before.before.before.before in
+    let known_at = known.before.before.before in
+    let start_at = known_at.before in
+    let f = held_fits_lem _ (area_in start_at) (both-in c).0 (bytes-in known_at) in
+    let board = keyboard_at_ok _ c.args.state.now (block_in known) c.requires.0.block-ok in
     char_fits _ _ _ board f.1 f.0
 
 -- the area with none held any more: it is that of a session, and the entry stands where it stood
 abbrev none_in : tie.Then-completes → List ℕ
-none_in c = unheld c.args.session.now (bytes-in c.before.before.before.before.before.before.before) (area_in c.before.before.before.before.before.before.before.before)
+none_in c =
+    let known = c.before.before.before.before.before.before.before in
+    let start_at = known.before in
+    unheld c.args.session.now (bytes-in known) (area_in start_at)
 
 none-bytes : (c : tie.Then-completes) (i : ℕ) → get_or (none_in c) i 0 < 256
-none-bytes c = unheld_bytes _ (bytes-in c.before.before.before.before.before.before.before) (area_in c.before.before.before.before.before.before.before.before)
+none-bytes c =
+    let known = c.before.before.before.before.before.before.before in
+    let start_at = known.before in
+    unheld_bytes _ (bytes-in known) (area_in start_at)
 
 none-area : (c : tie.Then-completes) → AreaOf (holding (decode c.args.session.now) none) (none_in c)
-none-area c = forgotten _ (own_area _ (bytes-in c.before.before.before.before.before.before.before) (area_in c.before.before.before.before.before.before.before.before)) refl
+none-area c =
+    let known = c.before.before.before.before.before.before.before in
+    let start_at = known.before in
+    forgotten _ (own_area _ (bytes-in known) (area_in start_at)) refl
 
 none-stands : (c : tie.Then-completes) → let a = c.args in StandsAt (none_in c) a.token.0 a.place
 none-stands c = same_place _ none _ _ (none-area c) c.requires.0.stands
@@ -105,7 +119,9 @@ event-in :
     let a = c.args in
     EventStands a.place (char-in c.before.before.before.before.before.before.before.before.before) (none_in c.before.before.before.before.before.before.before.before.before) a.answers.now c.forget_held.new.session c.put_last.new.answers
 event-in c =
-    unheld_stands _ (bytes-in c.before.before.before.before.before.before.before.before.before.before.before.before.before.before.before.before) (area_in c.before.before.before.before.before.before.before.before.before.before.before.before.before.before.before.before.before) _ _ c.put_last.ensures c.forget_held.ensures
+    let known = c.before.before.before.before.before.before.before.before.before.before.before.before.before.before.before.before in
+    let start_at = known.before in
+    unheld_stands _ (bytes-in known) (area_in start_at) _ _ c.put_last.ensures c.forget_held.ensures
 
 header-at-requires : tie.Need-header_at-head-requires
 header-at-requires c κs = search rules
@@ -115,20 +131,25 @@ completes-requires c κs = search rules
 
 put-last-requires : tie.Need-put_last-requires
 put-last-requires c κs =
+    let known = c.before.before.before.before.before.before.before.before.before in
+    let start_at = known.before in
     let p = c.requires in
-    let a = area_in c.before.before.before.before.before.before.before.before.before.before in (
-      record { session = a.size; answers = p.0.answers; few = few case.Character _ _ _ _ _ p.0 (bytes-in c.before.before.before.before.before.before.before.before.before); ok = held_passes _ a (both-in c.before.before).0 },
+    let a = area_in start_at in (
+      record { session = a.size; answers = p.0.answers; few = few case.Character _ _ _ _ _ p.0 (bytes-in known); ok = held_passes _ a (both-in c.before.before).0 },
       p.0.block-ok,
       p.1,
     )
 
 forget-held-requires : tie.Need-forget_held-requires
 forget-held-requires c κs =
-    (same_lengths c.args.place c.put_last.ensures).0 ∙ (area_in c.before.before.before.before.before.before.before.before.before.before.before.before.before.before.before.before).size
+    let start_at = c.before.before.before.before.before.before.before.before.before.before.before.before.before.before.before.before in
+    (same_lengths c.args.place c.put_last.ensures).0 ∙ (area_in start_at).size
 
 complete-pending-requires : tie.Need-complete_pending-requires
 complete-pending-requires c κs =
-    ready _ (none-bytes c.before.before.before.before.before.before.before.before.before.before.before.before.before) _ _ (none-stands c.before.before.before.before.before.before.before.before.before.before.before.before.before) (event-in c.before.before.before.before) c.requires.0.answers
+    let forget_held = c.before.before.before.before in
+    let then_at = forget_held.before.before.before.before.before.before.before.before.before in
+    ready _ (none-bytes then_at) _ _ (none-stands then_at) (event-in forget_held) c.requires.0.answers
 
 same_length : tie.Need-shape_of-session-then-completes
 same_length c = search rules
@@ -138,8 +159,11 @@ same-length-2 c = search rules
 
 returns : tie.Need-returns-then-completes
 returns c =
-    finished _ _ _ _ _ _ _ (char_done _ _ _ _ _ (waits_in c.before.before.before.before.before.before.before.before.before.before.before.before.before.before.before.before.before.before.before.before.before.before.before.before.before.before) _ (read-in c.before.before.before.before.before.before.before.before.before.before.before.before.before.before.before.before.before.before) (both-in c.before.before.before.before.before.before.before.before.before.before.before.before.before.before.before.before.before.before).1 refl) _ (none-area c.before.before.before.before.before.before.before.before.before.before.before.before.before.before.before.before.before.before).back
-    (c.complete_pending.ensures (none_in c.before.before.before.before.before.before.before.before.before.before.before.before.before.before.before.before.before.before) _ (char-in c.before.before.before.before.before.before.before.before.before.before.before.before.before.before.before.before.before.before) (none-bytes c.before.before.before.before.before.before.before.before.before.before.before.before.before.before.before.before.before.before) (none-stands c.before.before.before.before.before.before.before.before.before.before.before.before.before.before.before.before.before.before) (fits_in c.before.before.before.before.before.before.before.before.before.before.before.before.before.before.before.before.before.before) c.requires.0.answers (event-in c.before.before.before.before.before.before.before.before.before))
+    let forget_held = c.before.before.before.before.before.before.before.before.before in
+    let then_at = forget_held.before.before.before.before.before.before.before.before.before in
+    let start_at = then_at.before.before.before.before.before.before.before.before in
+    finished _ _ _ _ _ _ _ (char_done _ _ _ _ _ (waits_in start_at) _ (read-in then_at) (both-in then_at).1 refl) _ (none-area then_at).back
+    (c.complete_pending.ensures (none_in then_at) _ (char-in then_at) (none-bytes then_at) (none-stands then_at) (fits_in then_at) c.requires.0.answers (event-in forget_held))
 
 remove-pending-requires : tie.Need-remove_pending-requires
 remove-pending-requires c κs = search rules
@@ -152,7 +176,9 @@ same-length-4 c = search rules
 
 returns-2 : tie.Need-returns
 returns-2 c =
-    finished _ _ _ _ _ _ _ (char_dropped _ _ _ _ _ (waits_in c.before.before.before.before.before.before.before.before.before.before.before.before.before.before.before) (asked_in c.before.before.before.before.before.before.before.before false c.if-completes.false)) _ refl
+    let completes = c.before.before.before.before.before.before.before.before in
+    let start_at = completes.before.before.before.before.before.before.before in
+    finished _ _ _ _ _ _ _ (char_dropped _ _ _ _ _ (waits_in start_at) (asked_in completes false c.if-completes.false)) _ refl
     c.remove_pending.ensures
 
 pub finish_character_spec : {M : Type 1} → statement M

@@ -37,7 +37,9 @@ stands-in :
 stands-in c = record { area = c.requires.0; found = c.find-place.ensures; within = place_in c }
 
 within : (c : tie.Else-h-place) → ENTRIES_AT + ENTRY_SIZE * c.find-place.result + ENTRY_SIZE ≤ length c.args.session.now
-within c = entry-within _ (bytes-in c.before.before.before.before.before.before.before.before) c.requires.0 _ (place_in c)
+within c =
+    let known_at = c.before.before.before.before.before.before.before.before in
+    entry-within _ (bytes-in known_at) c.requires.0 _ (place_in c)
 
 -- it is of the case that was read
 found_as :
@@ -67,7 +69,8 @@ same-length-2 c = search rules
 
 returns : tie.Need-returns-then-h-place
 returns c =
-    nothing_left _ (bytes-in c.before.before.before.before.before.before.before.before.before.before.before.before) c.requires.0 _ _ _ _
+    let known_at = c.before.before.before.before.before.before.before.before.before.before.before.before in
+    nothing_left _ (bytes-in known_at) c.requires.0 _ _ _ _
     (lost _ _ (omega (arith, c.if-h-place.true, c.find-place.ensures, c.header_at-h.ensures.2))) c.no_events.ensures
 
 mul_at : tie.Need-overflow_mul-at
@@ -87,7 +90,8 @@ part-pending-at-end c = search rules
 
 pending-at-requires : tie.Need-pending_at-what-requires
 pending-at-requires c κs =
-    entry_long _ (bytes-in c.before.before.before.before.before.before.before.before.before) c.requires.0 _ (place_in c.before) (part-pending-at-start c.before) refl
+    let known_at = c.before.before.before.before.before.before.before.before.before in
+    entry_long _ (bytes-in known_at) c.requires.0 _ (place_in c.before) (part-pending-at-start c.before) refl
 
 enum_told : tie.Need-enum_told-1
 enum_told c = search rules
@@ -149,8 +153,10 @@ same-length-10 c = search rules
 
 returns-5 : tie.Need-returns-in-Complete
 returns-5 c =
-    nothing_left _ (bytes-in c.before.before.before.before.before.before.before.before.before.before.before.before.before.before.before) c.requires.0 _ _ _ _
-    (completed _ _ _ _ _ (found_as c.before.before.before.before.before case.Complete c.in-Complete.is))
+    let pending_at = c.before.before.before.before.before in
+    let known_at = pending_at.before.before.before.before.before.before.before.before.before.before in
+    nothing_left _ (bytes-in known_at) c.requires.0 _ _ _ _
+    (completed _ _ _ _ _ (found_as pending_at case.Complete c.in-Complete.is))
     c.no_events-in-Complete.ensures
 
 pub finish_open_spec : {M : Type 1} → statement M

@@ -59,7 +59,9 @@ waits_in :
     (c : tie.After-press_mark-mark) →
     let a = c.args in
     let r = c.pressed_at-p.result in find_wait a.token.0 (decode a.session.now).entries ≡ some (press r.vkey r.lparam)
-waits_in c = press_waits _ _ _ _ _ c.requires (bytes-in c.before.before.before.before.before.before.before.before.before) _ _ c.pressed_at-p.ensures refl
+waits_in c =
+    let known = c.before.before.before.before.before.before.before.before.before in
+    press_waits _ _ _ _ _ c.requires (bytes-in known) _ _ c.pressed_at-p.ensures refl
 
 -- the press, with no units yet
 abbrev press_in : tie.After-press_mark-mark → Held
@@ -76,9 +78,11 @@ made_in c =
 
 fits_in : (c : tie.After-press_mark-mark) → held_fits (some (press_in c)) ≡ true
 fits_in c =
+    let known = c.before.before.before.before.before.before in
+    let known_at = known.before.before.before in
     let p = c.requires in
-    let l = press_range _ _ _ _ _ p (bytes-in c.before.before.before.before.before.before.before.before.before) _ _ (waits_in c) in
-    rw (made_in c) (held_fits_lem _ _ _ (keyboard_at_ok _ c.args.state.now (block_in c.before.before.before.before.before.before) p.block-ok) l.0 l.1)
+    let l = press_range _ _ _ _ _ p (bytes-in known_at) _ _ (waits_in c) in
+    rw (made_in c) (held_fits_lem _ _ _ (keyboard_at_ok _ c.args.state.now (block_in known) p.block-ok) l.0 l.1)
 
 short-in : (c : tie.After-press_mark-mark) → units_within (some (press_in c)) ≡ true
 short-in c = rw (made_in c) (new_within _ _ _)
@@ -114,13 +118,16 @@ sets-in :
     (c : tie.After-set_held) →
     AreaOf (holding (decode c.args.session.now) (some (press_in c.before.before.before.before))) c.set_held.new.session
 sets-in c =
-    held-area _ _ (own_in c.before.before.before.before.before.before.before.before.before.before.before.before.before) (short-in c.before.before.before.before) (fits_in c.before.before.before.before) c.set_held.ensures
+    let press_mark = c.before.before.before.before in
+    let known = press_mark.before.before.before.before.before.before.before.before.before in
+    held-area _ _ (own_in known) (short-in press_mark) (fits_in press_mark) c.set_held.ensures
 
 forgets-in :
     (c : tie.After-forget_held) →
     AreaOf (holding (decode c.args.session.now) none) c.forget_held.new.session
 forgets-in c =
-    forgotten _ (own_in c.before.before.before.before.before.before.before.before.before.before.before.before.before) (forgot_plainly (bytes-in c.before.before.before.before.before.before.before.before.before.before.before.before.before) (own_in c.before.before.before.before.before.before.before.before.before.before.before.before.before).area c.forget_held.ensures)
+    let known = c.before.before.before.before.before.before.before.before.before.before.before.before.before in
+    forgotten _ (own_in known) (forgot_plainly (bytes-in known) (own_in known).area c.forget_held.ensures)
 
 -- ---- where the press is read
 
@@ -149,7 +156,8 @@ part-pressed-at-end c = search rules
 
 pressed-at-requires : tie.Need-pressed_at-p-requires
 pressed-at-requires c κs =
-    press-reads _ _ _ _ _ c.requires (bytes-in c.before.before.before.before) (part-pressed-at-start c.before) refl
+    let known = c.before.before.before.before in
+    press-reads _ _ _ _ _ c.requires (bytes-in known) (part-pressed-at-start c.before) refl
 
 from-message-requires : tie.Need-from_message-n-requires
 from-message-requires c κs = search rules
@@ -162,11 +170,13 @@ holds-requires c κs = search rules
 
 set-held-requires : tie.Need-set_held-requires
 set-held-requires c κs =
-    ((own_in c.before.before.before.before.before.before.before.before.before.before.before.before).area, c.from_message-n.ensures.1, fits_in c.before.before.before)
+    let known = c.before.before.before.before.before.before.before.before.before.before.before.before in
+    ((own_in known).area, c.from_message-n.ensures.1, fits_in c.before.before.before)
 
 remove-pending-requires : tie.Need-remove_pending-requires
 remove-pending-requires c κs =
-    (same_place _ _ _ _ (sets-in c.before.before.before.before) c.requires.stands, c.requires.answers)
+    let set_held = c.before.before.before.before in
+    (same_place _ _ _ _ (sets-in set_held) c.requires.stands, c.requires.answers)
 
 same_length : tie.Need-shape_of-session-then-holds
 same_length c = search rules
@@ -176,11 +186,16 @@ same-length-2 c = search rules
 
 returns : tie.Need-returns-then-holds
 returns c =
-    λ r. finished _ _ r _ _ _ _ (press-held _ _ r _ _ _ _ (waits_in c.before.before.before.before.before.before.before.before.before.before.before.before.before) _ (made_in c.before.before.before.before.before.before.before.before.before.before.before.before.before) (held_in_lem c.before.before.before.before.before.before.before.before.before.before.before)) _ (sets-in c.before.before.before.before.before.before.before.before.before).back
+    let set_held = c.before.before.before.before.before.before.before.before.before in
+    let then_at = set_held.before.before in
+    let press_mark = then_at.before.before in
+    λ r. finished _ _ r _ _ _ _ (press-held _ _ r _ _ _ _ (waits_in press_mark) _ (made_in press_mark) (held_in_lem then_at)) _ (sets-in set_held).back
     c.remove_pending.ensures
 
 forget-held-requires : tie.Need-forget_held-requires
-forget-held-requires c κs = (own_in c.before.before.before.before.before.before.before.before.before.before.before.before).area.size
+forget-held-requires c κs =
+    let known = c.before.before.before.before.before.before.before.before.before.before.before.before in
+    (own_in known).area.size
 
 is-fake-requires : tie.Need-is_fake-requires
 is-fake-requires c κs = search rules
@@ -206,7 +221,11 @@ same-length-4 c = search rules
 
 returns-2 : tie.Need-returns-then-is_fake
 returns-2 c =
-    λ r. finished _ _ r _ _ _ _ (press-fake _ _ r _ _ _ _ (waits_in c.before.before.before.before.before.before.before.before.before.before.before.before.before.before.before) _ (made_in c.before.before.before.before.before.before.before.before.before.before.before.before.before.before.before) (passes-in c.before.before.before.before.before.before.before.before.before.before.before.before.before) (fake-in c.before.before.before.before.before.before.before)) _ (forgets-in c.before.before.before.before.before.before.before.before.before.before.before).back
+    let then_at = c.before.before.before.before.before.before.before in
+    let forget_held = then_at.before.before.before.before in
+    let else_at = forget_held.before.before in
+    let press_mark = else_at.before.before in
+    λ r. finished _ _ r _ _ _ _ (press-fake _ _ r _ _ _ _ (waits_in press_mark) _ (made_in press_mark) (passes-in else_at) (fake-in then_at)) _ (forgets-in forget_held).back
     c.remove_pending-then-is_fake.ensures
 
 press-event-requires : tie.Need-press_event-e-requires
@@ -214,11 +233,14 @@ press-event-requires c κs = search rules
 
 put-event-requires : tie.Need-put_event-requires
 put-event-requires c κs =
-    ((stands-in c.before.before.before.before).area.size, c.requires.answers, place_in c.before.before.before.before.before.before.before.before.before.before.before.before.before.before.before.before.before.before.before.before, (c.press_event-e.ensures _ c.from_message-n.ensures.1 0).1)
+    let is_fake = c.before.before.before.before in
+    let known = is_fake.before.before.before.before.before.before.before.before.before.before.before.before.before.before.before.before in
+    ((stands-in is_fake).area.size, c.requires.answers, place_in known, (c.press_event-e.ensures _ c.from_message-n.ensures.1 0).1)
 
 complete-pending-requires : tie.Need-complete_pending-requires
 complete-pending-requires c κs =
-    ready _ (bytes-forgot c.before.before.before.before.before.before.before.before.before.before.before) _ _ (stands-in c.before.before.before.before.before.before.before.before.before.before.before) c.put_event.ensures c.requires.answers
+    let is_fake = c.before.before.before.before.before.before.before.before.before.before.before in
+    ready _ (bytes-forgot is_fake) _ _ (stands-in is_fake) c.put_event.ensures c.requires.answers
 
 same-length-5 : tie.Need-shape_of-session
 same-length-5 c = search rules
@@ -228,9 +250,14 @@ same-length-6 c = search rules
 
 returns-3 : tie.Need-returns
 returns-3 c =
+    let else_at = c.before.before.before.before.before.before.before.before.before.before.before.before.before.before.before in
+    let is_fake = else_at.before in
+    let forget_held = is_fake.before.before.before in
+    let else_at_at = forget_held.before.before in
+    let press_mark = else_at_at.before.before in
     let e = (c.press_event-e.ensures _ c.from_message-n.ensures.1 _).0 in
-    λ r. finished _ _ r _ _ _ _ (press_done _ _ r _ _ _ _ (waits_in c.before.before.before.before.before.before.before.before.before.before.before.before.before.before.before.before.before.before.before.before.before.before.before) _ (made_in c.before.before.before.before.before.before.before.before.before.before.before.before.before.before.before.before.before.before.before.before.before.before.before) (passes-in c.before.before.before.before.before.before.before.before.before.before.before.before.before.before.before.before.before.before.before.before.before) (real-in c.before.before.before.before.before.before.before.before.before.before.before.before.before.before.before) e) _ (forgets-in c.before.before.before.before.before.before.before.before.before.before.before.before.before.before.before.before.before.before.before).back
-    (c.complete_pending.ensures _ _ _ (bytes-forgot c.before.before.before.before.before.before.before.before.before.before.before.before.before.before.before.before) (stands-in c.before.before.before.before.before.before.before.before.before.before.before.before.before.before.before.before) (ap event_fits e ∙ press_fits _ (fits_in c.before.before.before.before.before.before.before.before.before.before.before.before.before.before.before.before.before.before.before.before.before.before.before)) c.requires.answers c.put_event.ensures)
+    λ r. finished _ _ r _ _ _ _ (press_done _ _ r _ _ _ _ (waits_in press_mark) _ (made_in press_mark) (passes-in else_at_at) (real-in else_at) e) _ (forgets-in forget_held).back
+    (c.complete_pending.ensures _ _ _ (bytes-forgot is_fake) (stands-in is_fake) (ap event_fits e ∙ press_fits _ (fits_in press_mark)) c.requires.answers c.put_event.ensures)
 
 pub finish_press_spec : {M : Type 1} → statement M
 finish_press_spec =

@@ -48,7 +48,9 @@ waits_in :
 waits_in c = release_waits _ _ _ _ _ c.requires (bytes-in c)
 
 key_in : (c : tie.After-bare_key_at-key) → bare_of (kept_in c.before.before.before.before.before).logical_key ≡ c.bare_key_at-key.result
-key_in c = key-read _ _ _ _ _ c.requires (bytes-in c.before.before.before.before.before) c.bare_key_at-key.ensures (omega arith)
+key_in c =
+    let known = c.before.before.before.before.before in
+    key-read _ _ _ _ _ c.requires (bytes-in known) c.bare_key_at-key.ensures (omega arith)
 
 fake-in :
     (c : tie.Then-is_fake) →
@@ -87,7 +89,8 @@ part-bare-key-at-end c = search rules
 
 bare-key-at-requires : tie.Need-bare_key_at-key-requires
 bare-key-at-requires c κs =
-    key_reads _ _ _ _ _ c.requires (bytes-in c.before.before.before.before) (part-bare-key-at-start c.before) (omega arith)
+    let known = c.before.before.before.before in
+    key_reads _ _ _ _ _ c.requires (bytes-in known) (part-bare-key-at-start c.before) (omega arith)
 
 is-fake-requires : tie.Need-is_fake-requires
 is-fake-requires c κs = search rules
@@ -103,15 +106,19 @@ same-length-2 c = search rules
 
 returns : tie.Need-returns-then-is_fake
 returns c =
-    λ r. finished _ _ r _ _ _ _ (release-fake _ _ r _ _ _ (waits_in c.before.before.before.before.before.before.before.before.before.before.before.before.before.before) (fake-in c.before.before.before.before.before.before.before)) _ refl c.remove_pending.ensures
+    let then_at = c.before.before.before.before.before.before.before in
+    let known = then_at.before.before.before.before.before.before.before in
+    λ r. finished _ _ r _ _ _ _ (release-fake _ _ r _ _ _ (waits_in known) (fake-in then_at)) _ refl c.remove_pending.ensures
 
 put-release-requires : tie.Need-put_release-requires
 put-release-requires c κs =
-    (c.requires.stands.area.size, c.requires.answers, place_in c.before.before.before.before.before.before.before.before.before, release_passes _ _ _ _ _ c.requires (bytes-in c.before.before.before.before.before.before.before.before.before))
+    let known = c.before.before.before.before.before.before.before.before.before in
+    (c.requires.stands.area.size, c.requires.answers, place_in known, release_passes _ _ _ _ _ c.requires (bytes-in known))
 
 complete-pending-requires : tie.Need-complete_pending-requires
 complete-pending-requires c κs =
-    ready _ (bytes-in c.before.before.before.before.before.before.before.before.before.before.before.before.before.before.before.before) _ _ c.requires.stands c.put_release.ensures c.requires.answers
+    let known = c.before.before.before.before.before.before.before.before.before.before.before.before.before.before.before.before in
+    ready _ (bytes-in known) _ _ c.requires.stands c.put_release.ensures c.requires.answers
 
 same-length-3 : tie.Need-shape_of-session
 same-length-3 c = search rules
@@ -121,9 +128,11 @@ same-length-4 c = search rules
 
 returns-2 : tie.Need-returns
 returns-2 c =
+    let else_at = c.before.before.before.before.before.before.before.before.before.before.before.before.before.before in
+    let known = else_at.before.before.before.before.before.before.before in
     let p = c.requires in
-    λ r. finished _ _ r _ _ _ _ (release_done _ _ r _ _ _ (waits_in c.before.before.before.before.before.before.before.before.before.before.before.before.before.before.before.before.before.before.before.before.before) (real-in c.before.before.before.before.before.before.before.before.before.before.before.before.before.before) refl) _ refl
-    (c.complete_pending.ensures _ _ _ (bytes-in c.before.before.before.before.before.before.before.before.before.before.before.before.before.before.before.before.before.before.before.before.before) p.stands (fits_in c.before.before.before.before.before.before.before.before.before.before.before.before.before.before.before.before.before.before.before.before.before) p.answers c.put_release.ensures)
+    λ r. finished _ _ r _ _ _ _ (release_done _ _ r _ _ _ (waits_in known) (real-in else_at) refl) _ refl
+    (c.complete_pending.ensures _ _ _ (bytes-in known) p.stands (fits_in known) p.answers c.put_release.ensures)
 
 pub finish_release_spec : {M : Type 1} → statement M
 finish_release_spec =

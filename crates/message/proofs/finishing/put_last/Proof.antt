@@ -32,7 +32,9 @@ abbrev known : tie.After-last_text-last → tie.After-slice_known-1
 known c = c.before.before.before.before.before.before.before
 
 board-in : (c : tie.After-last_text-last) → let a = c.args in KeyboardOk (keyboard_at a.state.now a.block.now)
-board-in c = keyboard_at_ok _ c.args.state.now (block_in c.before.before.before.before) c.requires.1
+board-in c =
+    let known_at = c.before.before.before.before in
+    keyboard_at_ok _ c.args.state.now (block_in known_at) c.requires.1
 
 -- it is that of the press
 says-in :
@@ -48,7 +50,8 @@ after-in :
     (c : tie.After-put_last_text) →
     let a = c.args in Completing c.put_last_text.new.session c.put_last_text.new.answers a.place
 after-in c =
-    (after-last-text _ (bytes-in c.before.before.before.before.before.before.before.before.before.before.before.before.before.before.before.before.before) c.requires.0 c.put_rest.ensures _ _ c.last_text-last.ensures.1 c.put_last_text.ensures).0
+    let known_at = c.before.before.before.before.before.before.before.before.before.before.before.before.before.before.before.before.before in
+    (after-last-text _ (bytes-in known_at) c.requires.0 c.put_rest.ensures _ _ c.last_text-last.ensures.1 c.put_last_text.ensures).0
 
 -- ---- the needs
 
@@ -69,21 +72,27 @@ put-rest-requires c κs = search rules
 
 put-last-text-requires : tie.Need-put_last_text-requires
 put-last-text-requires c κs =
-    ((after_rest _ (bytes-in c.before.before.before.before.before.before.before.before.before.before.before.before.before.before.before.before) c.requires.0 c.put_rest.ensures).0, search rules, c.last_text-last.ensures.1)
+    let known_at = c.before.before.before.before.before.before.before.before.before.before.before.before.before.before.before.before in
+    ((after_rest _ (bytes-in known_at) c.requires.0 c.put_rest.ensures).0, search rules, c.last_text-last.ensures.1)
 
 last-key-requires : tie.Need-last_key-key-requires
 last-key-requires c κs =
+    let put_last_text_at = c.before.before.before.before in
+    let last_text_at = put_last_text_at.before.before.before.before.before.before.before.before.before.before in
+    let known_at = last_text_at.before.before.before.before.before.before.before in
     let p = c.requires in
-    let q = after-in c.before.before.before.before in
-    (q.session, q.answers, p.0.few, p.2, length_in _ _ _ (bytes-in c.before.before.before.before.before.before.before.before.before.before.before.before.before.before.before.before.before.before.before.before.before) p.0 (board-in c.before.before.before.before.before.before.before.before.before.before.before.before.before.before) _ (says-in c.before.before.before.before.before.before.before.before.before.before.before.before.before.before) c.last_text-last.ensures.1 c.put_rest.ensures c.put_last_text.ensures)
+    let q = after-in put_last_text_at in
+    (q.session, q.answers, p.0.few, p.2, length_in _ _ _ (bytes-in known_at) p.0 (board-in last_text_at) _ (says-in last_text_at) c.last_text-last.ensures.1 c.put_rest.ensures c.put_last_text.ensures)
 
 put-last-key-requires : tie.Need-put_last_key-requires
 put-last-key-requires c κs =
-    (after-in c.before.before.before.before.before.before.before, c.last_text-last.ensures.1)
+    let put_last_text = c.before.before.before.before.before.before.before in
+    (after-in put_last_text, c.last_text-last.ensures.1)
 
 put-last-code-requires : tie.Need-put_last_code-requires
 put-last-code-requires c κs =
-    (after-last-key _ (bytes-in c.before.before.before.before.before.before.before.before.before.before.before.before.before.before.before.before.before.before.before.before.before.before.before.before.before.before.before.before.before.before.before) c.requires.0 c.put_rest.ensures _ _ c.last_text-last.ensures.1 c.put_last_text.ensures _
+    let known_at = c.before.before.before.before.before.before.before.before.before.before.before.before.before.before.before.before.before.before.before.before.before.before.before.before.before.before.before.before.before.before.before in
+    (after-last-key _ (bytes-in known_at) c.requires.0 c.put_rest.ensures _ _ c.last_text-last.ensures.1 c.put_last_text.ensures _
     c.put_last_key.ensures).0
 
 same_length : tie.Need-shape_of-session
@@ -94,7 +103,9 @@ same-length-2 c = search rules
 
 returns : tie.Need-returns
 returns c =
-    char-stands _ _ _ (bytes-in c.before.before.before.before.before.before.before.before.before.before.before.before.before.before.before.before.before.before.before.before.before.before.before.before.before.before.before.before.before.before.before.before.before.before.before.before) c.requires.0 (board-in c.before.before.before.before.before.before.before.before.before.before.before.before.before.before.before.before.before.before.before.before.before.before.before.before.before.before.before.before.before) _ (says-in c.before.before.before.before.before.before.before.before.before.before.before.before.before.before.before.before.before.before.before.before.before.before.before.before.before.before.before.before.before) c.last_text-last.ensures.1 c.put_rest.ensures c.put_last_text.ensures
+    let last_text_at = c.before.before.before.before.before.before.before.before.before.before.before.before.before.before.before.before.before.before.before.before.before.before.before.before.before.before.before.before.before in
+    let known_at = last_text_at.before.before.before.before.before.before.before in
+    char-stands _ _ _ (bytes-in known_at) c.requires.0 (board-in last_text_at) _ (says-in last_text_at) c.last_text-last.ensures.1 c.put_rest.ensures c.put_last_text.ensures
     _ _ c.last_key-key.ensures c.put_last_key.ensures c.put_last_code.ensures
 
 pub put_last_spec : {M : Type 1} → statement M

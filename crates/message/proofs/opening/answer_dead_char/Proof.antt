@@ -61,7 +61,9 @@ stands-in :
     EventStands c.header_at-h.result.count (dead_char_event (held_in x)) (unheld x (bytes-in c.before.before.before.before.before.before.before.before.before.before.before.before) (area_in c.before.before.before.before.before.before.before.before.before.before.before.before.before)) c.args.answers.now
     c.forget_held.new.session c.put_dead_event.new.answers
 stands-in c =
-    unheld_stands _ (bytes-in c.before.before.before.before.before.before.before.before.before.before.before.before) (area_in c.before.before.before.before.before.before.before.before.before.before.before.before.before) _ _ c.put_dead_event.ensures c.forget_held.ensures
+    let known_at = c.before.before.before.before.before.before.before.before.before.before.before.before in
+    let start_at = known_at.before in
+    unheld_stands _ (bytes-in known_at) (area_in start_at) _ _ c.put_dead_event.ensures c.forget_held.ensures
 
 -- the area with no press held
 back_in : (c : tie.After-slice_known-1) → decode (unheld _ (bytes-in c) (area_in c.before)) ≡ holding (decode c.args.session.now) none
@@ -69,7 +71,9 @@ back_in c = (forgotten _ (own_area _ (bytes-in c) (area_in c.before)) refl).back
 
 room_in : (c : tie.After-put_dead_event) → HasRoom (unheld _ (bytes-in c.before.before.before.before.before.before) (area_in c.before.before.before.before.before.before.before))
 room_in c =
-    dead_room _ (bytes-in c.before.before.before.before.before.before) (area_in c.before.before.before.before.before.before.before) _ c.header_at-h.ensures.2 _ (held_in_lem c.before.before.before.before.before.before.before) _ refl refl c.requires.0.entry c.requires.0.token
+    let known_at = c.before.before.before.before.before.before in
+    let start_at = known_at.before in
+    dead_room _ (bytes-in known_at) (area_in start_at) _ c.header_at-h.ensures.2 _ (held_in_lem start_at) _ refl refl c.requires.0.entry c.requires.0.token
 
 header-at-requires : tie.Need-header_at-h-requires
 header-at-requires c κs = search rules
@@ -79,16 +83,18 @@ cast-put-dead-event c = search rules
 
 put-dead-event-requires : tie.Need-put_dead_event-requires
 put-dead-event-requires c κs =
+    let start_at = c.before.before.before.before.before.before in
     record {
-      session = (area_in c.before.before.before.before.before.before).size;
+      session = (area_in start_at).size;
       answers = c.requires.2;
       few = omega (arith, c.header_at-h.ensures.2, c.requires.0.entry);
-      ok = held_passes _ (area_in c.before.before.before.before.before.before) c.requires.1;
+      ok = held_passes _ (area_in start_at) c.requires.1;
     }
 
 forget-held-requires : tie.Need-forget_held-requires
 forget-held-requires c κs =
-    (same_lengths _ c.put_dead_event.ensures).0 ∙ (area_in c.before.before.before.before.before.before.before.before.before.before.before.before).size
+    let start_at = c.before.before.before.before.before.before.before.before.before.before.before.before in
+    (same_lengths _ c.put_dead_event.ensures).0 ∙ (area_in start_at).size
 
 one-event-requires : tie.Need-one_event-requires
 one-event-requires c κs =
@@ -102,14 +108,19 @@ same-length-2 c = search rules
 
 returns : tie.Need-returns-then-h-eq0
 returns c =
+    let forget_held = c.before.before.before.before.before.before.before.before in
+    let known_at = forget_held.before.before.before.before.before.before.before.before.before.before.before.before in
+    let start_at = known_at.before in
     let e = c.if-h-eq0.true in
-    let s = (stands-in c.before.before.before.before.before.before.before.before).first e in
-    dead-out _ (bytes-in c.before.before.before.before.before.before.before.before.before.before.before.before.before.before.before.before.before.before.before.before) (area_in c.before.before.before.before.before.before.before.before.before.before.before.before.before.before.before.before.before.before.before.before.before) _ c.header_at-h.ensures.2 _ (held_in_lem c.before.before.before.before.before.before.before.before.before.before.before.before.before.before.before.before.before.before.before.before.before) _ refl s.0 e
-    (c.one_event.ensures _ _ (fits_in c.before.before.before.before.before.before.before.before.before.before.before.before.before.before.before.before.before.before.before.before) c.requires.2 s.1)
+    let s = (stands-in forget_held).first e in
+    dead-out _ (bytes-in known_at) (area_in start_at) _ c.header_at-h.ensures.2 _ (held_in_lem start_at) _ refl s.0 e
+    (c.one_event.ensures _ _ (fits_in known_at) c.requires.2 s.1)
 
 add-complete-requires : tie.Need-add_complete-requires
 add-complete-requires c κs =
-    ((same_lengths _ (stands-in c.before.before.before.before.before)).0 ∙ (room_in c.before.before.before.before.before.before.before.before.before.before.before).area.size, few-in c.before.before.before.before.before.before.before.before.before.before.before, omega (arith, c.header_at-h.ensures.0, c.requires.0.token))
+    let forget_held = c.before.before.before.before.before in
+    let put_dead_event = forget_held.before.before.before.before.before.before in
+    ((same_lengths _ (stands-in forget_held)).0 ∙ (room_in put_dead_event).area.size, few-in put_dead_event, omega (arith, c.header_at-h.ensures.0, c.requires.0.token))
 
 no-events-requires : tie.Need-no_events-requires
 no-events-requires c κs = search rules
@@ -122,12 +133,16 @@ same-length-4 c = search rules
 
 returns-2 : tie.Need-returns
 returns-2 c =
+    let forget_held = c.before.before.before.before.before.before.before.before.before.before.before.before in
+    let put_dead_event = forget_held.before.before.before.before.before.before in
+    let known_at = put_dead_event.before.before.before.before.before.before in
+    let start_at = known_at.before in
     let n = c.if-h-eq0.false in
-    let stood = ((stands-in c.before.before.before.before.before.before.before.before.before.before.before.before).later (λ i. omega (arith, n))).0 in
-    let handed = c.header_at-h.ensures.0 ∙ ap (λ (t : Session). t.handed) (sym (back_in c.before.before.before.before.before.before.before.before.before.before.before.before.before.before.before.before.before.before.before.before.before.before.before.before)) in
-    let count = c.header_at-h.ensures.2 ∙ ap (λ (t : Session). length t.entries) (sym (back_in c.before.before.before.before.before.before.before.before.before.before.before.before.before.before.before.before.before.before.before.before.before.before.before.before)) in
-    dead_waits _ (bytes-in c.before.before.before.before.before.before.before.before.before.before.before.before.before.before.before.before.before.before.before.before.before.before.before.before) (area_in c.before.before.before.before.before.before.before.before.before.before.before.before.before.before.before.before.before.before.before.before.before.before.before.before.before) _ c.header_at-h.ensures.2 _ (held_in_lem c.before.before.before.before.before.before.before.before.before.before.before.before.before.before.before.before.before.before.before.before.before.before.before.before.before) _ refl refl (λ i. omega (arith, n))
-    (c.add_complete.ensures _ _ (unheld_bytes _ (bytes-in c.before.before.before.before.before.before.before.before.before.before.before.before.before.before.before.before.before.before.before.before.before.before.before.before) (area_in c.before.before.before.before.before.before.before.before.before.before.before.before.before.before.before.before.before.before.before.before.before.before.before.before.before)) (room_in c.before.before.before.before.before.before.before.before.before.before.before.before.before.before.before.before.before.before) (fits_in c.before.before.before.before.before.before.before.before.before.before.before.before.before.before.before.before.before.before.before.before.before.before.before.before) handed count (stood ∙ rw add-zero refl)) c.no_events.ensures
+    let stood = ((stands-in forget_held).later (λ i. omega (arith, n))).0 in
+    let handed = c.header_at-h.ensures.0 ∙ ap (λ (t : Session). t.handed) (sym (back_in known_at)) in
+    let count = c.header_at-h.ensures.2 ∙ ap (λ (t : Session). length t.entries) (sym (back_in known_at)) in
+    dead_waits _ (bytes-in known_at) (area_in start_at) _ c.header_at-h.ensures.2 _ (held_in_lem start_at) _ refl refl (λ i. omega (arith, n))
+    (c.add_complete.ensures _ _ (unheld_bytes _ (bytes-in known_at) (area_in start_at)) (room_in put_dead_event) (fits_in known_at) handed count (stood ∙ rw add-zero refl)) c.no_events.ensures
 
 pub answer_dead_char_spec : {M : Type 1} → statement M
 answer_dead_char_spec =

@@ -30,14 +30,16 @@ same-length-2 c = search rules
 
 returns : tie.Need-returns-then-h-eq0
 returns c =
+    let known = c.before.before.before.before.before.before.before.before.before.before in
     let a = c.args in
-    focus-out _ (bytes-in c.before.before.before.before.before.before.before.before.before.before) c.requires.0 _ c.header_at-h.ensures.2 a.block.now a.state.now a.st
+    focus-out _ (bytes-in known) c.requires.0 _ c.header_at-h.ensures.2 a.block.now a.state.now a.st
     c.if-h-eq0.true c.hand_out_focus.ensures (refl, refl, refl)
 
 queue-focus-requires : tie.Need-queue_focus-requires
 queue-focus-requires c κs =
+    let known = c.before.before.before.before.before.before.before in
     let p = c.requires in
-    (p.0, p.1, some_entry _ (bytes-in c.before.before.before.before.before.before.before) p.0 _ c.header_at-h.ensures.2 c.if-h-eq0.false, p.3)
+    (p.0, p.1, some_entry _ (bytes-in known) p.0 _ c.header_at-h.ensures.2 c.if-h-eq0.false, p.3)
 
 no-events-requires : tie.Need-no_events-requires
 no-events-requires c κs = search rules
@@ -50,8 +52,9 @@ same-length-4 c = search rules
 
 returns-2 : tie.Need-returns
 returns-2 c =
+    let known = c.before.before.before.before.before.before.before.before.before.before.before.before.before.before in
     let a = c.args in
-    focus_waits _ (bytes-in c.before.before.before.before.before.before.before.before.before.before.before.before.before.before) c.requires.0 _ c.header_at-h.ensures.2 a.block.now a.state.now a.st
+    focus_waits _ (bytes-in known) c.requires.0 _ c.header_at-h.ensures.2 a.block.now a.state.now a.st
     c.if-h-eq0.false c.queue_focus.ensures c.no_events.ensures (refl, refl, refl)
 
 pub answer_focus_spec : {M : Type 1} → statement M

@@ -29,39 +29,44 @@ enum_told c = c.in-KeyDown-1.keys1
 
 open-press-requires : tie.Need-open_press-requires
 open-press-requires c κs =
+    let start_at = c.before.before.before.before.before.before.before in
     let e = c.in-KeyDown.is in
-    (press_room _ c.requires.0 (board c.before.before.before.before.before.before.before) (message c.before.before.before.before.before.before.before 0) _ c.requires.3 e, c.requires.1)
+    (press_room _ c.requires.0 (board start_at) (message start_at 0) _ c.requires.3 e, c.requires.1)
 
 enum-told-2 : tie.Need-enum_told-in-KeyUp
 enum-told-2 c = c.in-KeyUp-1.keys2
 
 open-release-requires : tie.Need-open_release-requires
 open-release-requires c κs =
+    let start_at = c.before.before.before.before.before.before.before in
     let e = c.in-KeyUp.is in
-    (release_room _ c.requires.0 (board c.before.before.before.before.before.before.before) (message c.before.before.before.before.before.before.before 0) _ c.requires.3 e, c.requires.1, c.requires.2)
+    (release_room _ c.requires.0 (board start_at) (message start_at 0) _ c.requires.3 e, c.requires.1, c.requires.2)
 
 enum-told-3 : tie.Need-enum_told-in-Char
 enum-told-3 c = c.in-Char-1.keys3
 
 open-char-requires : tie.Need-open_char-requires
 open-char-requires c κs =
+    let start_at = c.before.before.before.before.before.before.before in
     let e = c.in-Char.is in
-    (may_char _ c.requires.0 (board c.before.before.before.before.before.before.before) (message c.before.before.before.before.before.before.before 0) _ c.requires.3 e, c.requires.1)
+    (may_char _ c.requires.0 (board start_at) (message start_at 0) _ c.requires.3 e, c.requires.1)
 
 enum-told-4 : tie.Need-enum_told-in-DeadChar
 enum-told-4 c = c.in-DeadChar-1.keys4
 
 answer-dead-char-requires : tie.Need-answer_dead_char-requires
 answer-dead-char-requires c κs =
+    let start_at = c.before.before.before.before.before.before.before in
     let e = c.in-DeadChar.is in
-    (dead-char_room _ c.requires.0 (board c.before.before.before.before.before.before.before) (message c.before.before.before.before.before.before.before 0) _ c.requires.3 e, dead-char-held _ c.requires.0 (board c.before.before.before.before.before.before.before) (message c.before.before.before.before.before.before.before 0) _ c.requires.3 e, c.requires.1)
+    (dead-char_room _ c.requires.0 (board start_at) (message start_at 0) _ c.requires.3 e, dead-char-held _ c.requires.0 (board start_at) (message start_at 0) _ c.requires.3 e, c.requires.1)
 
 enum-known-sort : tie.Need-enum_known-sort
 enum-known-sort c = c.in-Focus-1.keys5
 
 answer-focus-requires : tie.Need-answer_focus-requires
 answer-focus-requires c κs =
-    (c.requires.0, c.requires.2, c.requires.1, focus_fits _ c.requires.0 (board c.before.before.before.before.before.before.before) (message c.before.before.before.before.before.before.before 0) _ c.requires.3 _ c.in-Focus.is)
+    let start_at = c.before.before.before.before.before.before.before in
+    (c.requires.0, c.requires.2, c.requires.1, focus_fits _ c.requires.0 (board start_at) (message start_at 0) _ c.requires.3 _ c.in-Focus.is)
 
 enum-told-5 : tie.Need-enum_told-in-Ignored
 enum-told-5 c = c.in-Ignored-1.keys6
@@ -77,8 +82,9 @@ same-length-2 c = search rules
 
 returns : tie.Need-returns-in-KeyDown
 returns c =
+    let start_at = c.before.before.before.before.before.before.before.before.before.before.before.before in
     λ kind.
-    by_press _ (board c.before.before.before.before.before.before.before.before.before.before.before.before) (message c.before.before.before.before.before.before.before.before.before.before.before.before kind) c.in-KeyDown.is c.open_press.ensures (refl, refl)
+    by_press _ (board start_at) (message start_at kind) c.in-KeyDown.is c.open_press.ensures (refl, refl)
 
 same-length-3 : tie.Need-shape_of-session-in-KeyUp
 same-length-3 c = search rules
@@ -88,8 +94,9 @@ same-length-4 c = search rules
 
 returns-2 : tie.Need-returns-in-KeyUp
 returns-2 c =
+    let start_at = c.before.before.before.before.before.before.before.before.before.before.before.before in
     λ kind.
-    by_release _ (board c.before.before.before.before.before.before.before.before.before.before.before.before) (message c.before.before.before.before.before.before.before.before.before.before.before.before kind) c.in-KeyUp.is c.open_release.ensures (refl, refl)
+    by_release _ (board start_at) (message start_at kind) c.in-KeyUp.is c.open_release.ensures (refl, refl)
 
 same-length-5 : tie.Need-shape_of-session-in-Char
 same-length-5 c = search rules
@@ -99,8 +106,9 @@ same-length-6 c = search rules
 
 returns-3 : tie.Need-returns-in-Char
 returns-3 c =
+    let start_at = c.before.before.before.before.before.before.before.before.before.before.before.before in
     λ kind.
-    by_char _ (board c.before.before.before.before.before.before.before.before.before.before.before.before) (message c.before.before.before.before.before.before.before.before.before.before.before.before kind) c.in-Char.is (c.open_char.ensures kind c.args.lparam)
+    by_char _ (board start_at) (message start_at kind) c.in-Char.is (c.open_char.ensures kind c.args.lparam)
 
 same-length-7 : tie.Need-shape_of-session-in-DeadChar
 same-length-7 c = search rules
@@ -110,8 +118,9 @@ same-length-8 c = search rules
 
 returns-4 : tie.Need-returns-in-DeadChar
 returns-4 c =
+    let start_at = c.before.before.before.before.before.before.before.before.before.before.before.before in
     λ kind.
-    by_dead-char _ (board c.before.before.before.before.before.before.before.before.before.before.before.before) (message c.before.before.before.before.before.before.before.before.before.before.before.before kind) c.in-DeadChar.is c.answer_dead_char.ensures
+    by_dead-char _ (board start_at) (message start_at kind) c.in-DeadChar.is c.answer_dead_char.ensures
 
 same-length-9 : tie.Need-shape_of-session-in-Focus
 same-length-9 c = search rules
@@ -121,16 +130,18 @@ same-length-10 c = search rules
 
 returns-5 : tie.Need-returns-in-Focus
 returns-5 c =
+    let start_at = c.before.before.before.before.before.before.before.before.before.before.before.before in
     λ kind.
-    by_focus _ (board c.before.before.before.before.before.before.before.before.before.before.before.before) (message c.before.before.before.before.before.before.before.before.before.before.before.before kind) _ c.in-Focus.is c.answer_focus.ensures
+    by_focus _ (board start_at) (message start_at kind) _ c.in-Focus.is c.answer_focus.ensures
 
 same-length-11 : tie.Need-shape_of-answers-in-Ignored
 same-length-11 c = search rules
 
 returns-6 : tie.Need-returns-in-Ignored
 returns-6 c =
+    let start_at = c.before.before.before.before.before.before.before.before.before in
     λ kind.
-    by_ignored _ (λ i. omega (arith, c.slice_known-1.given i)) c.requires.0 (board c.before.before.before.before.before.before.before.before.before) (message c.before.before.before.before.before.before.before.before.before kind) c.in-Ignored.is
+    by_ignored _ (λ i. omega (arith, c.slice_known-1.given i)) c.requires.0 (board start_at) (message start_at kind) c.in-Ignored.is
     c.open_none.ensures.0 c.open_none.ensures.1
 
 pub open_by_spec : {M : Type 1} → statement M

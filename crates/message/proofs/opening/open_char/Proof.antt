@@ -39,16 +39,19 @@ same-length-2 c = search rules
 
 returns : tie.Need-returns-then-not-h
 returns c =
+    let known_at = c.before.before.before.before.before.before.before.before in
+    let start = known_at.before in
     λ kind lparam.
     let x = c.args.session.now in
-    char_unheld x (bytes-in c.before.before.before.before.before.before.before.before) (area_in c.before.before.before.before.before.before.before.before.before) _ (none-held _ _ c.header_at-h.ensures.1 c.if-not-h.true) c.open_none.ensures
+    char_unheld x (bytes-in known_at) (area_in start) _ (none-held _ _ c.header_at-h.ensures.1 c.if-not-h.true) c.open_none.ensures
 
 -- ---- the press that is held
 
 add-units-requires : tie.Need-add_units-requires
 add-units-requires c κs =
+    let start = c.before.before.before.before.before.before in
     let e = one-held (decode c.args.session.now).held _ c.header_at-h.ensures.1 c.if-not-h.false in
-    (area_in c.before.before.before.before.before.before, e, c.requires.0.units _ (held_there _ (area_in c.before.before.before.before.before.before) e))
+    (area_in start, e, c.requires.0.units _ (held_there _ (area_in start) e))
 
 abbrev head : tie.After-add_units → tie.After-header_at-h
 head c = c.before.before.before.before
@@ -63,10 +66,15 @@ one_in : (c : tie.After-add_units) → is_held (decode c.args.session.now).held 
 one_in c = one-held (decode c.args.session.now).held _ c.header_at-h.ensures.1 c.if-not-h.false
 
 held_in_lem : (c : tie.After-add_units) → (decode c.args.session.now).held ≡ some (held_in c.args.session.now)
-held_in_lem c = held_there _ (area_in c.before.before.before.before.before.before.before) (one_in c)
+held_in_lem c =
+    let start = c.before.before.before.before.before.before.before in
+    held_there _ (area_in start) (one_in c)
 
 fits_in : (c : tie.After-add_units) → held_fits (some (held_in c.args.session.now)) ≡ true
-fits_in c = (held_fits_lem _ (area_in c.before.before.before.before.before.before.before) (one_in c) (bytes-in c.before.before.before.before.before.before)).1
+fits_in c =
+    let known_at = c.before.before.before.before.before.before in
+    let start = known_at.before in
+    (held_fits_lem _ (area_in start) (one_in c) (bytes-in known_at)).1
 
 -- the message's units go into it
 room_in : (c : tie.After-add_units) → length (held_in c.args.session.now).units + length (char_units c.args.wparam) ≤ UNITS_MOST
@@ -74,7 +82,9 @@ room_in c = c.requires.0.units _ (held_in_lem c)
 
 add-character-requires : tie.Need-add_character-token-requires
 add-character-requires c κs =
-    char_room c.args.session.now (bytes-in c.before.before.before.before.before.before.before.before.before) (area_in c.before.before.before.before.before.before.before.before.before.before) c.args.wparam _ _ (held_in_lem c.before.before.before) refl (fits_in c.before.before.before) (room_in c.before.before.before)
+    let known_at = c.before.before.before.before.before.before.before.before.before in
+    let start = known_at.before in
+    char_room c.args.session.now (bytes-in known_at) (area_in start) c.args.wparam _ _ (held_in_lem c.before.before.before) refl (fits_in c.before.before.before) (room_in c.before.before.before)
     c.add_units.ensures (c.requires.0.entry (one_in c.before.before.before)) (c.requires.0.token (one_in c.before.before.before))
 
 no-events-requires : tie.Need-no_events-requires
@@ -88,8 +98,11 @@ same-length-4 c = search rules
 
 returns-2 : tie.Need-returns
 returns-2 c =
+    let add_units_at = c.before.before.before.before.before.before.before.before.before.before in
+    let known_at = add_units_at.before.before.before.before.before.before in
+    let start = known_at.before in
     λ kind lparam.
-    char-opened c.args.session.now (bytes-in c.before.before.before.before.before.before.before.before.before.before.before.before.before.before.before.before) (area_in c.before.before.before.before.before.before.before.before.before.before.before.before.before.before.before.before.before) c.args.wparam _ _ (held_in_lem c.before.before.before.before.before.before.before.before.before.before) refl (fits_in c.before.before.before.before.before.before.before.before.before.before) (room_in c.before.before.before.before.before.before.before.before.before.before)
+    char-opened c.args.session.now (bytes-in known_at) (area_in start) c.args.wparam _ _ (held_in_lem add_units_at) refl (fits_in add_units_at) (room_in add_units_at)
     c.add_units.ensures kind lparam c.add_character-token.ensures c.no_events.ensures refl
 
 pub open_char_spec : {M : Type 1} → statement M

@@ -47,15 +47,18 @@ key-passed c =
 
 text-passed : (c : tie.Else-not-text_ok) → let l = bytes c.before.before.before.before.before.before in event.ok l ≡ behind-text l
 text-passed c =
-    next_by _ _ (key-passed c.before.before.before) (text-told 62 (bytes c.before.before.before.before.before.before) c.text_ok.ensures) (not-false _ c.if-not-text_ok.false-raw)
+    let else_at = c.before.before.before.before.before.before in
+    next_by _ _ (key-passed c.before.before.before) (text-told 62 (bytes else_at) c.text_ok.ensures) (not-false _ c.if-not-text_ok.false-raw)
 
 marks-passed : (c : tie.Else-not-marks_ok) → let l = bytes c.before.before.before.before.before.before.before.before.before in event.ok l ≡ behind_marks l
 marks-passed c =
-    next_by _ _ (text-passed c.before.before.before) (cut marks.ok 111 (bytes c.before.before.before.before.before.before.before.before.before) c.marks_ok.ensures) (not-false _ c.if-not-marks_ok.false-raw)
+    let else_at = c.before.before.before.before.before.before.before.before.before in
+    next_by _ _ (text-passed c.before.before.before) (cut marks.ok 111 (bytes else_at) c.marks_ok.ensures) (not-false _ c.if-not-marks_ok.false-raw)
 
 other-passed : (c : tie.Else-not-text_ok-2) → let l = bytes c.before.before.before.before.before.before.before.before.before.before.before.before in event.ok l ≡ (full_key KEY_TEXT_MOST).ok (drop 164 l)
 other-passed c =
-    next_by _ _ (marks-passed c.before.before.before) (text-told 115 (bytes c.before.before.before.before.before.before.before.before.before.before.before.before) c.text_ok-2.ensures) (not-false _ c.if-not-text_ok-2.false-raw)
+    let else_at = c.before.before.before.before.before.before.before.before.before.before.before.before in
+    next_by _ _ (marks-passed c.before.before.before) (text-told 115 (bytes else_at) c.text_ok-2.ensures) (not-false _ c.if-not-text_ok-2.false-raw)
 
 -- ---- the needs
 
@@ -95,7 +98,8 @@ text-ok-requires c κs = search rules
 
 returns-3 : tie.Need-returns-then-not-text_ok
 returns-3 c =
-    stop_by _ _ (key-passed c.before.before.before) (text-told 62 (bytes c.before.before.before.before.before.before) c.text_ok.ensures) (not-true _ c.if-not-text_ok.true-raw)
+    let else_at = c.before.before.before.before.before.before in
+    stop_by _ _ (key-passed c.before.before.before) (text-told 62 (bytes else_at) c.text_ok.ensures) (not-true _ c.if-not-text_ok.true-raw)
 
 sub-marks-ok : tie.Need-slice_bounds-marks_ok-count
 sub-marks-ok c = search rules
@@ -111,7 +115,8 @@ marks-ok-requires c κs = search rules
 
 returns-4 : tie.Need-returns-then-not-marks_ok
 returns-4 c =
-    stop_by _ _ (text-passed c.before.before.before) (cut marks.ok 111 (bytes c.before.before.before.before.before.before.before.before.before) c.marks_ok.ensures) (not-true _ c.if-not-marks_ok.true-raw)
+    let else_at = c.before.before.before.before.before.before.before.before.before in
+    stop_by _ _ (text-passed c.before.before.before) (cut marks.ok 111 (bytes else_at) c.marks_ok.ensures) (not-true _ c.if-not-marks_ok.true-raw)
 
 sub-text-ok-2 : tie.Need-slice_bounds-text_ok-count-2
 sub-text-ok-2 c = search rules
@@ -127,7 +132,8 @@ text-ok-requires-2 c κs = search rules
 
 returns-5 : tie.Need-returns-then-not-text_ok-2
 returns-5 c =
-    stop_by _ _ (marks-passed c.before.before.before) (text-told 115 (bytes c.before.before.before.before.before.before.before.before.before.before.before.before) c.text_ok-2.ensures) (not-true _ c.if-not-text_ok-2.true-raw)
+    let else_at = c.before.before.before.before.before.before.before.before.before.before.before.before in
+    stop_by _ _ (marks-passed c.before.before.before) (text-told 115 (bytes else_at) c.text_ok-2.ensures) (not-true _ c.if-not-text_ok-2.true-raw)
 
 sub-key-ok-2 : tie.Need-slice_bounds-key_ok-count-2
 sub-key-ok-2 c = search rules
@@ -143,7 +149,8 @@ key-ok-requires-2 c κs = search rules
 
 returns-6 : tie.Need-returns
 returns-6 c =
-    let l = bytes c.before.before.before.before.before.before.before.before.before.before.before.before.before.before in
+    let else_at = c.before.before.before.before.before.before.before.before.before.before.before.before.before.before in
+    let l = bytes else_at in
     cut (full_key KEY_TEXT_MOST).ok 164 l c.key_ok-2.ensures ∙ sym (other-passed c.before.before)
 
 pub event_ok_spec : {M : Type 1} → statement M

@@ -47,14 +47,16 @@ right-held :
     (c : tie.Else-not-held_field_ok) →
     let x = area c.before.before.before.before.before in Asked x ≡ by_count x c.get_u16-handed.result (num 2 COUNT_AT x)
 right-held c =
-    let x = area c.before.before.before.before.before in
+    let else_at = c.before.before.before.before.before in
+    let x = area else_at in
     next_by _ _ (few-tokens c.before.before.before) (cut held_field.ok 2 x c.held_field_ok.ensures) (not-false _ c.if-not-held_field_ok.false-raw)
 
 counted :
     (c : tie.After-get_u16-n) →
     let x = area c.before.before.before.before.before.before in Asked x ≡ by_count x c.get_u16-handed.result c.get_u16-n.result
 counted c =
-    let x = area c.before.before.before.before.before.before in
+    let else_at = c.before.before.before.before.before.before in
+    let x = area else_at in
     right-held c.before ∙ ap (λ (n : ℕ). by_count x c.get_u16-handed.result n) (sym c.get_u16-n.ensures)
 
 few-entries :
@@ -71,7 +73,8 @@ right-entries :
     (c : tie.Else-not-entries_ok) →
     let x = area c.before.before.before.before.before.before.before.before.before.before.before.before in Asked x ≡ by_order x c.get_u16-handed.result c.get_u16-n.result
 right-entries c =
-    let x = area c.before.before.before.before.before.before.before.before.before.before.before.before in
+    let else_at = c.before.before.before.before.before.before.before.before.before.before.before.before in
+    let x = area else_at in
     next_by _ _ (zeros-behind c.before.before.before) (cut (ok_many entry c.get_u16-n.result) ENTRIES_AT x c.entries_ok.ensures) (not-false _ c.if-not-entries_ok.false-raw)
 
 -- ---- the needs
@@ -102,7 +105,8 @@ held-field-ok-requires c κs = search rules
 
 returns-3 : tie.Need-returns-then-not-held_field_ok
 returns-3 c =
-    stop_by _ _ (few-tokens c.before.before.before) (cut held_field.ok 2 (area c.before.before.before.before.before) c.held_field_ok.ensures) (not-true _ c.if-not-held_field_ok.true-raw)
+    let else_at = c.before.before.before.before.before in
+    stop_by _ _ (few-tokens c.before.before.before) (cut held_field.ok 2 (area else_at) c.held_field_ok.ensures) (not-true _ c.if-not-held_field_ok.true-raw)
 
 get-u16-requires-2 : tie.Need-get_u16-n-requires
 get-u16-requires-2 c κs = search rules
@@ -139,7 +143,8 @@ entries-ok-requires c κs = search rules
 
 returns-6 : tie.Need-returns-then-not-entries_ok
 returns-6 c =
-    let x = area c.before.before.before.before.before.before.before.before.before.before.before.before in
+    let else_at = c.before.before.before.before.before.before.before.before.before.before.before.before in
+    let x = area else_at in
     stop_by _ _ (zeros-behind c.before.before.before) (cut (ok_many entry c.get_u16-n.result) ENTRIES_AT x c.entries_ok.ensures) (not-true _ c.if-not-entries_ok.true-raw)
 
 sub-order-ok : tie.Need-slice_bounds-order_ok-count
@@ -156,7 +161,8 @@ order-ok-requires c κs = search rules
 
 returns-7 : tie.Need-returns
 returns-7 c =
-    cut (λ (l : List ℕ). ordered c.get_u16-handed.result (get_many entry c.get_u16-n.result l)) ENTRIES_AT (area c.before.before.before.before.before.before.before.before.before.before.before.before.before.before) c.order_ok.ensures
+    let else_at = c.before.before.before.before.before.before.before.before.before.before.before.before.before.before in
+    cut (λ (l : List ℕ). ordered c.get_u16-handed.result (get_many entry c.get_u16-n.result l)) ENTRIES_AT (area else_at) c.order_ok.ensures
     ∙ sym (right-entries c.before.before)
 
 pub session_ok_spec : {M : Type 1} → statement M

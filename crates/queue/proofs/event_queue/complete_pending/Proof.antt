@@ -20,8 +20,9 @@ drain-pending-requires c κs =
 
 close-requires : tie.Need-close-requires
 close-requires c κs =
+    let known = c.before.before.before.before.before.before.before in
     let s = c.requires.4 c.if-place-eq0.true in
-    (search rules, omega (arith, c.drain_pending-n.ensures.count, rest_most _ (bytes c.before.before.before.before.before.before.before) _ _ s))
+    (search rules, omega (arith, c.drain_pending-n.ensures.count, rest_most _ (bytes known) _ _ s))
 
 restart-requires : tie.Need-restart-requires
 restart-requires c κs =

@@ -37,25 +37,33 @@ add-copy-part : tie.Need-overflow_add-place-3
 add-copy-part c = omega (arith, within c.before.before.before)
 
 mul-copy-part : tie.Need-overflow_mul-at
-mul-copy-part c = omega (arith, within c.before.before.before.before)
+mul-copy-part c =
+    let known = c.before.before.before.before in
+    omega (arith, within known)
 
 add-copy-part-2 : tie.Need-overflow_add-at
-add-copy-part-2 c = omega (arith, within c.before.before.before.before)
+add-copy-part-2 c =
+    let known = c.before.before.before.before in
+    omega (arith, within known)
 
 copy-part-requires : tie.Need-copy_part-requires
 copy-part-requires c κs =
-    (omega (arith, within c.before.before.before.before, c.requires.0.size), omega (arith, within c.before.before.before.before))
+    let known = c.before.before.before.before in
+    (omega (arith, within known, c.requires.0.size), omega (arith, within known))
 
 add-result : tie.Need-overflow_add-result
-add-result c = omega (arith, within c.before.before.before.before.before.before.before)
+add-result c =
+    let known = c.before.before.before.before.before.before.before in
+    omega (arith, within known)
 
 same_length : tie.Need-shape_of-answers
 same_length c = search rules
 
 returns-2 : tie.Need-returns
 returns-2 c =
+    let known = c.before.before.before.before.before.before.before in
     let a = c.args in
-    copied a.session.now (bytes c.before.before.before.before.before.before.before) c.requires.0 a.i c.requires.2 a.at a.answers.now (λ e. omega (arith, c.if-session-place-eq0.false)) c.copy_part.ensures
+    copied a.session.now (bytes known) c.requires.0 a.i c.requires.2 a.at a.answers.now (λ e. omega (arith, c.if-session-place-eq0.false)) c.copy_part.ensures
     refl refl refl refl refl
 
 pub drain_one_spec : {M : Type 1} → statement M

@@ -18,8 +18,9 @@ drain-pending-requires c κs = search rules
 
 close-requires : tie.Need-close-requires
 close-requires c κs =
+    let known = c.before.before.before.before.before.before.before in
     let a = c.args in
-    (search rules, omega (arith, c.drain_pending-n.ensures.count, rest_most a.session.now (bytes c.before.before.before.before.before.before.before) a.token.0 a.place c.requires.0))
+    (search rules, omega (arith, c.drain_pending-n.ensures.count, rest_most a.session.now (bytes known) a.token.0 a.place c.requires.0))
 
 restart-requires : tie.Need-restart-requires
 restart-requires c κs = search rules
@@ -32,8 +33,9 @@ same-length-2 c = search rules
 
 returns : tie.Need-returns-then-place-eq0
 returns c =
+    let known = c.before.before.before.before.before.before.before.before.before.before.before.before.before.before in
     let a = c.args in
-    first_removed a.session.now (bytes c.before.before.before.before.before.before.before.before.before.before.before.before.before.before) a.token.0 a.place c.requires.0
+    first_removed a.session.now (bytes known) a.token.0 a.place c.requires.0
     a.answers.now c.requires.1 c.if-place-eq0.true
     c.drain_pending-n.ensures c.close.ensures c.restart.ensures refl refl
 
@@ -51,8 +53,9 @@ same-length-4 c = search rules
 
 returns-2 : tie.Need-returns
 returns-2 c =
+    let known = c.before.before.before.before.before.before.before.before.before.before in
     let a = c.args in
-    later a.session.now (bytes c.before.before.before.before.before.before.before.before.before.before) a.token.0 a.place c.requires.0
+    later a.session.now (bytes known) a.token.0 a.place c.requires.0
     none (λ i. omega (arith, c.if-place-eq0.false)) c.no_events.ensures c.remove.ensures
 
 pub remove_pending_spec : {M : Type 1} → statement M

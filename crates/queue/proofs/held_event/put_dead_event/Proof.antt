@@ -30,15 +30,18 @@ add-put-zeros c = search rules
 
 put-zeros-requires : tie.Need-put_zeros-requires
 put-zeros-requires c κs =
-    ((after_rest _ (bytes-in c.before.before.before.before.before.before.before.before.before.before.before) c.requires c.put_rest.ensures).0, search rules)
+    let known = c.before.before.before.before.before.before.before.before.before.before.before in
+    ((after_rest _ (bytes-in known) c.requires c.put_rest.ensures).0, search rules)
 
 put-known-key-requires : tie.Need-put_known_key-requires
 put-known-key-requires c κs =
-    (after_no_text _ (bytes-in c.before.before.before.before.before.before.before.before.before.before.before.before.before.before.before.before.before.before) c.requires c.put_rest.ensures c.put_zeros.ensures).0
+    let known = c.before.before.before.before.before.before.before.before.before.before.before.before.before.before.before.before.before.before in
+    (after_no_text _ (bytes-in known) c.requires c.put_rest.ensures c.put_zeros.ensures).0
 
 put-last-code-requires : tie.Need-put_last_code-requires
 put-last-code-requires c κs =
-    (after_known _ (bytes-in c.before.before.before.before.before.before.before.before.before.before.before.before.before.before.before.before.before.before.before.before.before.before.before.before.before) c.requires c.put_rest.ensures c.put_zeros.ensures (not (eqb (get_or c.args.session.now (HELD_AT + 70) 0) 1))
+    let known = c.before.before.before.before.before.before.before.before.before.before.before.before.before.before.before.before.before.before.before.before.before.before.before.before.before in
+    (after_known _ (bytes-in known) c.requires c.put_rest.ensures c.put_zeros.ensures (not (eqb (get_or c.args.session.now (HELD_AT + 70) 0) 1))
     c.put_known_key.ensures).0
 
 same_length : tie.Need-shape_of-session
@@ -49,7 +52,8 @@ same-length-2 c = search rules
 
 returns : tie.Need-returns
 returns c =
-    dead-stands _ (bytes-in c.before.before.before.before.before.before.before.before.before.before.before.before.before.before.before.before.before.before.before.before.before.before.before.before.before.before.before.before.before.before) c.requires c.put_rest.ensures c.put_zeros.ensures _ c.put_known_key.ensures
+    let known = c.before.before.before.before.before.before.before.before.before.before.before.before.before.before.before.before.before.before.before.before.before.before.before.before.before.before.before.before.before.before in
+    dead-stands _ (bytes-in known) c.requires c.put_rest.ensures c.put_zeros.ensures _ c.put_known_key.ensures
     (ap not (mark_in c.args.session.now)) c.put_last_code.ensures
 
 pub put_dead_event_spec : {M : Type 1} → statement M

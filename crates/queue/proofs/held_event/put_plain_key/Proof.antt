@@ -28,7 +28,8 @@ same-length-2 c = search rules
 
 returns : tie.Need-returns-then-place-eq0
 returns c =
-    stands_as _ 164 (plain_bytes (bytes-in c.before.before.before.before.before.before) c.requires)
+    let known = c.before.before.before.before.before.before in
+    stands_as _ 164 (plain_bytes (bytes-in known) c.requires)
     (stands-first _ 164 _ _ _ c.if-place-eq0.true c.copy_part.ensures refl)
 
 event-at-requires : tie.Need-event_at-requires
@@ -48,7 +49,8 @@ same-length-3 c = search rules
 
 returns-2 : tie.Need-returns
 returns-2 c =
-    stands_as _ 164 (plain_bytes (bytes-in c.before.before.before.before.before.before.before) c.requires)
+    let known = c.before.before.before.before.before.before.before in
+    stands_as _ 164 (plain_bytes (bytes-in known) c.requires)
     (stands-later _ 164 _ _ _ (λ i. omega (arith, c.if-place-eq0.false)) c.move_up.ensures (omega arith))
 
 pub put_plain_key_spec : {M : Type 1} → statement M

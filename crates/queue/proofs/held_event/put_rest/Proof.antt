@@ -33,11 +33,13 @@ put-plain-key-requires c κs = search rules
 
 put-typed-requires : tie.Need-put_typed-requires
 put-typed-requires c κs =
-    ((after_plain _ (bytes-in c.before.before.before.before.before.before.before.before.before.before.before.before.before) c.requires c.put_plain_key.ensures).0, search rules)
+    let known = c.before.before.before.before.before.before.before.before.before.before.before.before.before in
+    ((after_plain _ (bytes-in known) c.requires c.put_plain_key.ensures).0, search rules)
 
 put-marks-requires : tie.Need-put_marks-requires
 put-marks-requires c κs =
-    (after_typed _ (bytes-in c.before.before.before.before.before.before.before.before.before.before.before.before.before.before.before.before.before.before.before.before) c.requires c.put_plain_key.ensures c.put_typed.ensures).0
+    let known = c.before.before.before.before.before.before.before.before.before.before.before.before.before.before.before.before.before.before.before.before in
+    (after_typed _ (bytes-in known) c.requires c.put_plain_key.ensures c.put_typed.ensures).0
 
 same_length : tie.Need-shape_of-session
 same_length c = search rules
@@ -47,8 +49,9 @@ same-length-2 c = search rules
 
 returns : tie.Need-returns
 returns c =
+    let known = c.before.before.before.before.before.before.before.before.before.before.before.before.before.before.before.before.before.before.before.before.before.before.before.before.before in
     let x = c.args.session.now in
-    rest_stands _ (bytes-in c.before.before.before.before.before.before.before.before.before.before.before.before.before.before.before.before.before.before.before.before.before.before.before.before.before) c.requires c.put_plain_key.ensures c.put_typed.ensures _ _ (c.location_at-location.ensures ∙ location-in x) (repeat_in x)
+    rest_stands _ (bytes-in known) c.requires c.put_plain_key.ensures c.put_typed.ensures _ _ (c.location_at-location.ensures ∙ location-in x) (repeat_in x)
     c.put_marks.ensures
 
 pub put_rest_spec : {M : Type 1} → statement M

@@ -22,7 +22,8 @@ put-last-text-requires c κs = search rules
 
 put-zeros-requires : tie.Need-put_zeros-requires
 put-zeros-requires c κs =
-    ((still_completing _ 13 _ (bytes-in c.before.before.before.before.before.before.before.before.before.before.before) c.requires.0 c.put_last_text.ensures).0, search rules)
+    let known = c.before.before.before.before.before.before.before.before.before.before.before in
+    ((still_completing _ 13 _ (bytes-in known) c.requires.0 c.put_last_text.ensures).0, search rules)
 
 same_length : tie.Need-shape_of-session
 same_length c = search rules

@@ -73,14 +73,16 @@ loop-less c = omega arith
 
 loop-again : tie.Need-loop-i-preserved invariant-loop decreases-loop
 loop-again c =
-    sought_next _ _ _ c.loop-i.invariant (one_of c.before.before.before.before) c.token_at-t.ensures refl c.if-t-wanted.false
+    let else_at = c.before.before.before.before in
+    sought_next _ _ _ c.loop-i.invariant (one_of else_at) c.token_at-t.ensures refl c.if-t-wanted.false
 
 returns : tie.Need-returns-then-n-i invariant-loop decreases-loop
 returns c = sought_end _ _ _ c.loop-i.invariant (omega (arith, c.header_at-h.ensures.2))
 
 returns-2 : tie.Need-returns-then-t-wanted invariant-loop decreases-loop
 returns-2 c =
-    sought_at _ _ _ c.loop-i.invariant (one_of c.before.before.before.before) c.token_at-t.ensures refl c.if-t-wanted.true
+    let else_at = c.before.before.before.before in
+    sought_at _ _ _ c.loop-i.invariant (one_of else_at) c.token_at-t.ensures refl c.if-t-wanted.true
 
 pub find_spec : {M : Type 1} → statement M
 find_spec =

@@ -53,7 +53,9 @@ add-put-zeros : tie.Need-overflow_add-last
 add-put-zeros c = search rules
 
 put-zeros-requires : tie.Need-put_zeros-requires
-put-zeros-requires c κs = omega (arith, few-in c.before.before.before.before.before.before)
+put-zeros-requires c κs =
+    let header_at = c.before.before.before.before.before.before in
+    omega (arith, few-in header_at)
 
 sub-put-u16 : tie.Need-overflow_sub-h
 sub-put-u16 c = search rules
@@ -66,7 +68,8 @@ same_length c = search rules
 
 returns : tie.Need-returns
 returns c =
-    dropped _ (bytes-in c.before.before.before.before.before.before.before.before.before.before.before.before.before.before.before) c.args.token.0 c.args.place c.requires
+    let known = c.before.before.before.before.before.before.before.before.before.before.before.before.before.before.before in
+    dropped _ (bytes-in known) c.args.token.0 c.args.place c.requires
     c.move_down.ensures c.put_zeros.ensures c.put_u16.ensures c.header_at-h.ensures.2 refl refl refl refl refl
 
 pub remove_spec : {M : Type 1} → statement M

@@ -59,10 +59,14 @@ add-put-u8 : tie.Need-overflow_add-at-3
 add-put-u8 c = search rules
 
 add-put-u8-2 : tie.Need-overflow_add-n-2
-add-put-u8-2 c = omega (arith, few c.before.before.before.before.before.before.before)
+add-put-u8-2 c =
+    let char_units = c.before.before.before.before.before.before.before in
+    omega (arith, few char_units)
 
 cast-put-u8 : tie.Need-overflow_cast-n-2
-cast-put-u8 c = omega (arith, few c.before.before.before.before.before.before.before)
+cast-put-u8 c =
+    let char_units = c.before.before.before.before.before.before.before in
+    omega (arith, few char_units)
 
 put-u8-requires : tie.Need-put_u8-requires
 put-u8-requires c κs = search rules
@@ -72,8 +76,9 @@ same_length c = search rules
 
 returns : tie.Need-returns
 returns c =
+    let known = c.before.before.before.before.before.before.before.before.before.before.before in
     let a = c.args in
-    units-written a.s.now (bytes-in c.before.before.before.before.before.before.before.before.before.before.before) a.at c.requires.0 c.requires.1 a.wparam _ c.char_units-added.ensures c.requires.2
+    units-written a.s.now (bytes-in known) a.at c.requires.0 c.requires.1 a.wparam _ c.char_units-added.ensures c.requires.2
     c.put_char_units.ensures c.put_u8.ensures refl refl refl refl
 
 pub add_units_spec : {M : Type 1} → statement M

@@ -53,8 +53,9 @@ add-move-key c = search rules
 
 move-key-requires : tie.Need-move_key-requires
 move-key-requires c κs =
+    let known = c.before.before.before.before.before.before.before.before.before.before.before.before.before.before in
     let a = c.args in
-    (search rules, (logical_still a.s.now (bytes-in c.before.before.before.before.before.before.before.before.before.before.before.before.before.before) a.at c.requires.0 c.requires.1 _ _ c.move_up.ensures c.put_no_texts.ensures).0)
+    (search rules, (logical_still a.s.now (bytes-in known) a.at c.requires.0 c.requires.1 _ _ c.move_up.ensures c.put_no_texts.ensures).0)
 
 add-put-code : tie.Need-overflow_add-at-6
 add-put-code c = search rules
@@ -67,8 +68,9 @@ same_length c = search rules
 
 returns : tie.Need-returns
 returns c =
+    let known = c.before.before.before.before.before.before.before.before.before.before.before.before.before.before.before.before.before.before.before.before.before in
     let a = c.args in
-    release_completed a.s.now (bytes-in c.before.before.before.before.before.before.before.before.before.before.before.before.before.before.before.before.before.before.before.before.before) a.at c.requires.0 c.requires.1 c.get_u16-scancode.ensures c.keycode_from_scancode-code.ensures
+    release_completed a.s.now (bytes-in known) a.at c.requires.0 c.requires.1 c.get_u16-scancode.ensures c.keycode_from_scancode-code.ensures
     refl c.location_at-location.ensures c.move_up.ensures c.put_no_texts.ensures c.move_key.ensures c.put_code.ensures
 
 pub complete_release_spec : {M : Type 1} → statement M

@@ -26,8 +26,9 @@ bytes-in c i = omega (arith, c.shared_slice_known-1.given i)
 
 returns : tie.Need-returns
 returns c =
+    let known = c.before.before.before.before.before.before.before.before.before in
     let a = c.args in
-    key-moved a.src.now (bytes-in c.before.before.before.before.before.before.before.before.before) a.from c.requires.0 c.requires.1 a.to a.dst.now c.copy_part.ensures
+    key-moved a.src.now (bytes-in known) a.from c.requires.0 c.requires.1 a.to a.dst.now c.copy_part.ensures
     c.put_zeros.ensures refl refl
 
 pub copy_key_spec : {M : Type 1} → statement M

@@ -29,9 +29,10 @@ bytes-in c i = omega (arith, c.slice_known-1.given i)
 
 returns : tie.Need-returns
 returns c =
+    let known = c.before.before.before.before.before.before.before.before in
     let a = c.args in
     let h = c.requires.0 in
-    key-moved a.s.now (bytes-in c.before.before.before.before.before.before.before.before) a.from (omega arith) c.requires.1 _ a.s.now c.move_up.ensures
+    key-moved a.s.now (bytes-in known) a.from (omega arith) c.requires.1 _ a.s.now c.move_up.ensures
     c.put_zeros.ensures refl refl
 
 pub move_key_spec : {M : Type 1} → statement M

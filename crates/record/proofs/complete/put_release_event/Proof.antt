@@ -66,8 +66,9 @@ same_length c = search rules
 
 returns : tie.Need-returns
 returns c =
+    let known = c.before.before.before.before.before.before.before.before.before.before.before.before.before.before.before.before.before.before.before.before.before.before in
     let a = c.args in
-    release-written a.src.now (bytes-in c.before.before.before.before.before.before.before.before.before.before.before.before.before.before.before.before.before.before.before.before.before.before) a.from c.requires.0 c.requires.1 a.at a.dst.now
+    release-written a.src.now (bytes-in known) a.from c.requires.0 c.requires.1 a.at a.dst.now
     c.get_u16-scancode.ensures c.keycode_from_scancode-code.ensures refl c.location_at-location.ensures refl c.copy_part.ensures
     c.put_no_texts.ensures c.copy_key.ensures c.put_code.ensures refl refl refl
 

@@ -32,12 +32,14 @@ shared-slice-read-if3 c = omega arith
 
 returns-3 : tie.Need-returns-then-s-eq0-2
 returns-3 c =
-    let l = bytes c.before.before.before.before in
+    let else_at = c.before.before.before.before in
+    let l = bytes else_at in
     rw (pending_got l, eq-eqb (get_or l 2 0) 0 (omega arith), ne_eqb (get_or l 3 0) 0 (λ e. omega arith), eq-eqb (get_or l 4 0) 0 (omega arith))
 
 returns-4 : tie.Need-returns
 returns-4 c =
-    let l = bytes c.before.before.before.before in
+    let else_at = c.before.before.before.before in
+    let l = bytes else_at in
     rw (pending_got l, eq-eqb (get_or l 2 0) 0 (omega arith), ne_eqb (get_or l 3 0) 0 (λ e. omega arith), ne_eqb (get_or l 4 0) 0 (λ e. omega arith))
 
 pub pending_at_spec : {M : Type 1} → statement M

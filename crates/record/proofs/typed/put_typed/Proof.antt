@@ -39,7 +39,9 @@ add-put-text-2 : tie.Need-overflow_add-to
 add-put-text-2 c = search rules
 
 put-text-requires : tie.Need-put_text-len-requires
-put-text-requires c κs = omega (arith, few c.before.before.before.before)
+put-text-requires c κs =
+    let start = c.before.before.before.before in
+    omega (arith, few start)
 
 add-put-zeros : tie.Need-overflow_add-to-2
 add-put-zeros c = search rules
@@ -54,7 +56,9 @@ put-zeros-requires : tie.Need-put_zeros-requires
 put-zeros-requires c κs = omega (arith, short c.before.before.before)
 
 cast-put-u8 : tie.Need-overflow_cast-len
-cast-put-u8 c = omega (arith, short c.before.before.before.before.before.before.before)
+cast-put-u8 c =
+    let put_text = c.before.before.before.before.before.before.before in
+    omega (arith, short put_text)
 
 put-u8-requires : tie.Need-put_u8-requires
 put-u8-requires c κs = search rules

@@ -54,7 +54,9 @@ put-zeros-requires : tie.Need-put_zeros-requires
 put-zeros-requires c κs = omega (arith, short c.before.before.before)
 
 cast-put-u8 : tie.Need-overflow_cast-len
-cast-put-u8 c = omega (arith, short c.before.before.before.before.before.before.before)
+cast-put-u8 c =
+    let put_text_within = c.before.before.before.before.before.before.before in
+    omega (arith, short put_text_within)
 
 put-u8-requires : tie.Need-put_u8-requires
 put-u8-requires c κs = search rules

@@ -62,7 +62,9 @@ add-get-u32 : tie.Need-overflow_add-middle-in-loop-low invariant-loop decreases-
 add-get-u32 c = omega arith
 
 get-u32-requires-2 : tie.Need-get_u32-requires invariant-loop decreases-loop
-get-u32-requires-2 c κs = omega (arith, middle-in c, (passed c.before.before.before.before).size)
+get-u32-requires-2 c κs =
+    let start_at = c.before.before.before.before in
+    omega (arith, middle-in c, (passed start_at).size)
 
 loop-less : tie.Need-loop-low-smaller-then-scalar-get_u32 invariant-loop decreases-loop
 loop-less c = omega arith
@@ -70,7 +72,8 @@ loop-less c = omega arith
 loop-again : tie.Need-loop-low-preserved-then-scalar-get_u32 invariant-loop decreases-loop
 unfolding first_at
 loop-again c =
-    (omega arith, c.loop-low.invariant.1 ∙ search_below _ (passed c.before.before.before.before.before.before) _ _ _ c.loop-low-test.true c.loop-low.invariant.0 (omega (arith, c.get_u32.ensures)))
+    let start_at = c.before.before.before.before.before.before in
+    (omega arith, c.loop-low.invariant.1 ∙ search_below _ (passed start_at) _ _ _ c.loop-low-test.true c.loop-low.invariant.0 (omega (arith, c.get_u32.ensures)))
 
 mul-get-u32-2 : tie.Need-overflow_mul-n invariant-loop decreases-loop
 mul-get-u32-2 c = omega arith
@@ -85,7 +88,9 @@ add-get-u32-3 : tie.Need-overflow_add-n-else-scalar-get_u32 invariant-loop decre
 add-get-u32-3 c = omega arith
 
 get-u32-requires-3 : tie.Need-get_u32-requires-else-scalar-get_u32 invariant-loop decreases-loop
-get-u32-requires-3 c κs = omega (arith, middle-in c.before.before, (passed c.before.before.before.before.before.before).size)
+get-u32-requires-3 c κs =
+    let start_at = c.before.before.before.before.before.before in
+    omega (arith, middle-in c.before.before, (passed start_at).size)
 
 mul-props-by : tie.Need-overflow_mul-n-then-scalar-get_u32-2 invariant-loop decreases-loop
 mul-props-by c = omega arith
@@ -98,7 +103,9 @@ add-props-by-2 c = omega arith
 
 shared-slice-read-props-by : tie.Need-bounds-table-n invariant-loop decreases-loop
 shared-slice-read-props-by c =
-    omega (arith, middle-in c.before.before.before.before.before, (passed c.before.before.before.before.before.before.before.before.before).size)
+    let turn = c.before.before.before.before.before in
+    let start_at = turn.before.before.before.before in
+    omega (arith, middle-in turn, (passed start_at).size)
 
 props-by-requires : tie.Need-props_by-requires invariant-loop decreases-loop
 props-by-requires c κs = search rules
@@ -106,10 +113,11 @@ props-by-requires c κs = search rules
 returns : tie.Need-returns-then-scalar-get_u32-2 invariant-loop decreases-loop
 unfolding first_at
 returns c =
+    let start_at = c.before.before.before.before.before.before.before.before.before.before in
     let v = last-in c.before.before.before in
     c.props_by.ensures
     ∙ ap props_by (kind_is _ _ _ c.get_u32-n.ensures)
-    ∙ sym (c.loop-low.invariant.1 ∙ search_found _ (passed c.before.before.before.before.before.before.before.before.before.before) _ _ _ c.loop-low-test.true c.loop-low.invariant.0 (omega (arith, c.get_u32.ensures)) (omega arith))
+    ∙ sym (c.loop-low.invariant.1 ∙ search_found _ (passed start_at) _ _ _ c.loop-low-test.true c.loop-low.invariant.0 (omega (arith, c.get_u32.ensures)) (omega arith))
 
 add_low : tie.Need-overflow_add-low invariant-loop decreases-loop
 add_low c = omega arith
@@ -119,8 +127,9 @@ loop-less-2 c = omega arith
 
 loop-again-2 : tie.Need-loop-low-preserved invariant-loop decreases-loop
 loop-again-2 c =
+    let start_at = c.before.before.before.before.before.before.before.before in
     let v = last-in c.before in
-    (c.loop-low.invariant.0, c.loop-low.invariant.1 ∙ search_above _ (passed c.before.before.before.before.before.before.before.before) _ _ _ c.loop-low-test.true c.loop-low.invariant.0 (omega arith))
+    (c.loop-low.invariant.0, c.loop-low.invariant.1 ∙ search_above _ (passed start_at) _ _ _ c.loop-low-test.true c.loop-low.invariant.0 (omega arith))
 
 returns-2 : tie.Need-returns invariant-loop decreases-loop
 returns-2 c = sym (c.loop-low.invariant.1 ∙ search_out _ _ _ _ c.loop-low-test.false)

@@ -64,15 +64,20 @@ put-scalar-requires c κs =
     let pre = c.requires in (room.0, omega arith)
 
 add-i : tie.Need-overflow_add-i invariant-loop decreases-loop
-add-i c = omega (arith, inside c.before.before.before.before)
+add-i c =
+    let scalar = c.before.before.before.before in
+    omega (arith, inside scalar)
 
 loop-less : tie.Need-loop-i-smaller invariant-loop decreases-loop
-loop-less c = omega (arith, inside c.before.before.before.before)
+loop-less c =
+    let scalar = c.before.before.before.before in
+    omega (arith, inside scalar)
 
 loop-again : tie.Need-loop-i-preserved invariant-loop decreases-loop
 loop-again c =
+    let scalar = c.before.before.before.before in
     let a = c.put_scalar-to.ensures in
-    rw (a.0, a.1) (next _ _ _ _ _ _ _ c.loop-i.invariant _ _ (found c.before.before.before.before))
+    rw (a.0, a.1) (next _ _ _ _ _ _ _ c.loop-i.invariant _ _ (found scalar))
 
 sub-result : tie.Need-overflow_sub-result invariant-loop decreases-loop
 sub-result c = search rules

@@ -27,11 +27,10 @@ same_length c = search rules
 
 returns : tie.Need-returns
 unfolding event_line
-returns c =
-    (
-      wrote-append _ _ _ _ _ c.put_head-a.ensures.0 (wrote-append _ _ _ _ _ c.put_marks-b.ensures.0 c.put_text.ensures.0),
-      omega arith,
-    )
+returns c = (
+  wrote-append _ _ _ _ _ c.put_head-a.ensures.0 (wrote-append _ _ _ _ _ c.put_marks-b.ensures.0 c.put_text.ensures.0),
+  omega arith,
+)
 
 pub put_event_spec : {M : Type 1} → statement M
 put_event_spec =

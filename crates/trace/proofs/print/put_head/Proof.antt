@@ -26,11 +26,10 @@ same_length c = search rules
 
 returns : tie.Need-returns
 unfolding event_head
-returns c =
-    (
-      wrote-append _ _ _ _ _ c.put_byte-a.ensures (wrote-append _ _ _ _ _ c.put_field-b.ensures.0 c.put_field.ensures.0),
-      let a = c.put_byte-a.ensures.place in omega arith,
-    )
+returns c = (
+  wrote-append _ _ _ _ _ c.put_byte-a.ensures (wrote-append _ _ _ _ _ c.put_field-b.ensures.0 c.put_field.ensures.0),
+  let a = c.put_byte-a.ensures.place in omega arith,
+)
 
 pub put_head_spec : {M : Type 1} → statement M
 put_head_spec =

@@ -25,11 +25,10 @@ same_length c = search rules
 
 returns : tie.Need-returns
 unfolding event_marks
-returns c =
-    (
-      wrote-append _ _ _ _ _ c.put_field-a.ensures.0 (wrote-append _ _ _ _ _ c.put_field-b.ensures.0 c.put_field.ensures.0),
-      omega arith,
-    )
+returns c = (
+  wrote-append _ _ _ _ _ c.put_field-a.ensures.0 (wrote-append _ _ _ _ _ c.put_field-b.ensures.0 c.put_field.ensures.0),
+  omega arith,
+)
 
 pub put_marks_spec : {M : Type 1} → statement M
 put_marks_spec =

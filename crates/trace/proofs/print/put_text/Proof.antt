@@ -26,11 +26,10 @@ same_length c = search rules
 
 returns : tie.Need-returns
 unfolding event_text
-returns c =
-    (
-      wrote-append _ _ _ _ _ c.put_byte-a.ensures (wrote-append _ _ _ _ _ c.put_pairs-b.ensures.0 c.put_byte.ensures),
-      let a = c.put_byte-a.ensures.place in let b = c.put_byte.ensures.place in omega arith,
-    )
+returns c = (
+  wrote-append _ _ _ _ _ c.put_byte-a.ensures (wrote-append _ _ _ _ _ c.put_pairs-b.ensures.0 c.put_byte.ensures),
+  let a = c.put_byte-a.ensures.place in let b = c.put_byte.ensures.place in omega arith,
+)
 
 pub put_text_spec : {M : Type 1} → statement M
 put_text_spec =
