@@ -6,7 +6,7 @@
  * bytes, and gets events.
  *
  *     tools/hosts                            builds the archive and tries both hosts of this repository
- *     rt staticlib export                    builds target/staticlib/libexport.a alone: x86-64, ELF, System V calling convention
+ *     tools/staticlib                        builds target/staticlib/libexport.a alone: x86-64, ELF, System V calling convention
  *     cc -Iinclude host.c libexport.a        links it: it needs memcpy, memmove and memset of the C library
  *
  * Message kinds, virtual keys, scan codes and characters are written in hexadecimal; sizes, counts and refusals in decimal.

@@ -1,4 +1,4 @@
-//! Links the proved library, libexport.a, from the folder that MAHJONGLARCH_LIB names, or else from where `rt staticlib export` writes it.
+//! Links the proved library, libexport.a, from the folder that MAHJONGLARCH_LIB names, or else from where `tools/staticlib` writes it.
 use std::{env, path::PathBuf};
 
 fn main() {
@@ -9,7 +9,7 @@ fn main() {
   println!("cargo:rerun-if-changed={}", archive.display());
   if !archive.is_file() {
     // A warning: `cargo check` and `cargo doc` need no archive, and rustc stops where one is needed.
-    println!("cargo:warning=there is no {}: run `rt staticlib export` in the repository's folder,", archive.display());
+    println!("cargo:warning=there is no {}: run `tools/staticlib` in the repository's folder,", archive.display());
     println!("cargo:warning=or set MAHJONGLARCH_LIB to the folder that has libexport.a");
   }
   println!("cargo:rustc-link-search=native={}", folder.display());

@@ -26,8 +26,7 @@ use session::{PendingMessageToken, ProcResult};
 const INTERFACE: u32 = 2;
 
 // The number of this interface, for a host to compare with its header's before the first call.
-#[unsafe(no_mangle)]
-pub extern "C" fn mahjonglarch_interface() -> u32
+pub fn mahjonglarch_interface() -> u32
     ensures { result ≡ INTERFACE }
 {
     INTERFACE
@@ -36,8 +35,7 @@ pub extern "C" fn mahjonglarch_interface() -> u32
 // ---- a fresh session
 
 // Makes the area that of a fresh session: 0. An area of another size is left as it is: 1, question 1's number.
-#[unsafe(no_mangle)]
-pub extern "C" fn mahjonglarch_fresh(session: &mut [u8]) -> u32
+pub fn mahjonglarch_fresh(session: &mut [u8]) -> u32
     ensures { (result ≡ pick (eqb (length session.old) AREA) 0 1) × (session.new ≡ pick (eqb (length session.old) AREA) (encode fresh_session) session.old) }
 {
     if record::write::fresh(session) { 0 } else { 1 } // question 1
@@ -57,8 +55,7 @@ fn peeked_at(peeked: u32, kind: u32, wparam: u64, lparam: u64) -> Peeked
 
 // Takes a message: 0, or the number of the question that refused it. `token` becomes the token of the message that was opened, or
 // 4,294,967,295 where none was; `result` what becomes of the message result: 0 it stays as it was, 1 the default procedure's, 2 value 0.
-#[unsafe(no_mangle)]
-pub extern "C" fn mahjonglarch_open(
+pub fn mahjonglarch_open(
     session: &mut [u8],
     answers: &mut [u8],
     state: &[u8],
@@ -85,8 +82,7 @@ pub extern "C" fn mahjonglarch_open(
 
 // Finishes the latest open message, which has the token, with the peeked message, or with none where `peeked` is 0: 0, or the number of the
 // question that refused it.
-#[unsafe(no_mangle)]
-pub extern "C" fn mahjonglarch_finish(
+pub fn mahjonglarch_finish(
     session: &mut [u8],
     answers: &mut [u8],
     state: &[u8],
@@ -116,8 +112,7 @@ pub extern "C" fn mahjonglarch_finish(
 // ---- the events of an answer area
 
 // Their number; 4,294,967,295 where the bytes are no answer area's: another size, or a number above 256.
-#[unsafe(no_mangle)]
-pub extern "C" fn mahjonglarch_event_count(answers: &[u8]) -> u32
+pub fn mahjonglarch_event_count(answers: &[u8]) -> u32
     ensures { result ≡ count_of answers.now }
 {
     if !crate::events::is_answer(answers) {
@@ -128,8 +123,7 @@ pub extern "C" fn mahjonglarch_event_count(answers: &[u8]) -> u32
 
 // Event i as 17 numbers: 0. Where there is no such event, its bytes are not an event's, or `fields` has another length than 17: 1, and the
 // fields stay as they are.
-#[unsafe(no_mangle)]
-pub extern "C" fn mahjonglarch_event(answers: &[u8], i: u32, fields: &mut [u32]) -> u32
+pub fn mahjonglarch_event(answers: &[u8], i: u32, fields: &mut [u32]) -> u32
     ensures { ◌≡◌ {A = ℕ × List ℕ} (result, fields.new) (fields_left (event_at answers.now i) fields.old) }
 {
     if crate::events::read_event(answers, i, fields) {
@@ -142,13 +136,7 @@ pub extern "C" fn mahjonglarch_event(answers: &[u8], i: u32, fields: &mut [u32])
 // A text of event i, copied to the front of `text`: its length, 0 where there is none. 0 is the logical key's character, 1 the text, 2 the
 // text with all modifiers, 3 the character of the key without modifiers. Where there is no such event or text, its bytes are not an event's,
 // or `text` has less than 48 bytes: 4,294,967,295, and the bytes stay as they are.
-#[unsafe(no_mangle)]
-pub extern "C" fn mahjonglarch_event_text(
-    answers: &[u8],
-    i: u32,
-    which: u32,
-    text: &mut [u8],
-) -> u32
+pub fn mahjonglarch_event_text(answers: &[u8], i: u32, which: u32, text: &mut [u8]) -> u32
     ensures { ◌≡◌ {A = ℕ × List ℕ} (result, text.new) (text_left (text_at (event_at answers.now i) which) text.old) }
 {
     crate::events::read_text(answers, i, which, text)
