@@ -1,4 +1,4 @@
--- What the digits so far spell is below the most that ten digits of base 16 do in base 10.
+-- Nine digits, and a last one that counts at most 15.
 use Rattle.std.proofs.Common.{◌≤◌, ◌<◌, ◌-◌, length}
 use Rattle.timing.proofs.rounds_in.Given as goal
 
