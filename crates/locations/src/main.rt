@@ -1,59 +1,57 @@
 // The location of every scan code of some pages, over a block in which a code has the virtual key of its low byte.
+#![tactic(auto)]
+
 ghost use Rattle.std.specs.Prelude.{true, ◌≡◌};
 ghost use Rattle.lookup.specs.Block.{block_ok};
 
-use libc::STDOUT_FILENO;
 use lookup::block::block_ok;
 use lookup::keyboard::get_location;
+use std::fs::File;
+use std::io;
+use std::io::Read;
+
+// The most bytes of a file that are read.
+const MOST: u64 = 65536;
 
 // Sixteen codes to a line.
-fn show(block: &[u8], scancode: u16)
+fn show(rt: &impl Print, block: &[u8], scancode: u16) -> io::Result<()>
     requires { block_ok block.now ≡ true }
 {
     let location = get_location(block, scancode);
-    io::print_decimal(
-        STDOUT_FILENO,
-        keys::native_code::location_number(location) as u64,
-    );
+    print!(rt; "{}", keys::native_code::location_number(location))?;
     if scancode % 16 == 15 {
-        io::write_all(STDOUT_FILENO, b"\n");
+        println!(rt)?;
     }
+    Ok(())
 }
 
-fn show_page(block: &[u8], page: u8)
+fn show_page(rt: &impl Print, block: &[u8], page: u8) -> io::Result<()>
     requires { block_ok block.now ≡ true }
 {
-    io::write_all(STDOUT_FILENO, b"page ");
-    io::print_hex(STDOUT_FILENO, page as u64, 2);
-    io::write_all(STDOUT_FILENO, b"\n");
-    let mut low: u16 = 0;
-    while low < 256 {
-        show(block, page as u16 * 256 + low % 256);
-        low += 1;
+    println!(rt; "page {page:02x}")?;
+    for low in 0..256u16 {
+        show(rt, block, page as u16 * 256 + low % 256)?;
     }
+    Ok(())
 }
 
-fn show_all(block: &[u8]) {
+fn show_all(rt: &impl Print, block: &[u8]) -> io::Result<()> {
     if !block_ok(block) {
-        io::write_all(STDOUT_FILENO, b"not a layout block\n");
-        return;
+        return println!(rt; "not a layout block");
     }
     let pages: [u8; 5] = [0x00, 0xE0, 0xE1, 0x01, 0xFF];
-    let mut i: usize = 0;
-    while i < 5 {
-        show_page(block, pages[i]);
-        i += 1;
+    for page in pages {
+        show_page(rt, block, page)?;
     }
+    Ok(())
 }
 
-fn main() {
-    let fd = os::open_read(b"locations.block");
-    if fd < 0 {
-        os::fail(b"locations.block");
-        return;
-    }
-    let mut space = io::large_buffer();
-    let n = io::read_full(fd, &mut space);
-    libc::close(fd);
-    show_all(&space[..n]);
+fn main(rt: HostRuntime) -> io::Result<()> {
+    let file = match File::open(&rt, "locations.block") {
+        Ok(file) => file,
+        Err(error) => return eprintln!(rt; "locations.block: {error}"),
+    };
+    let mut block = Vec::new(rt.alloc());
+    file.take(MOST).read_to_end(&mut block)?;
+    show_all(&rt, block.as_slice())
 }

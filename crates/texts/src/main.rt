@@ -1,5 +1,7 @@
 // Published examples of UTF-16 and UTF-8, through the conversion and the check. A row of a table is a count, so many units or bytes, and zeros.
-use libc::STDOUT_FILENO;
+#![tactic(auto)]
+
+use std::io;
 
 // The Unicode Standard's examples of the encoding forms, an emoji, surrogates without their partners, two zeros.
 const UNITS: [[u16; 4]; 12] = [
@@ -50,42 +52,36 @@ const BYTES: [[u8; 10]; 28] = [
 ];
 
 // A blank stands behind each unit.
-fn show_units(units: &[u16]) {
-    let mut i: usize = 0;
-    while i < units.len() {
-        let u = units[i] as u64;
-        io::print_hex(STDOUT_FILENO, u, 4);
-        io::write_all(STDOUT_FILENO, b" ");
-        i += 1;
+fn show_units(rt: &impl Print, units: &[u16]) -> io::Result<()> {
+    for unit in units {
+        print!(rt; "{unit:04x} ")?;
     }
+    Ok(())
 }
 
 // A blank stands before each byte.
-fn show_bytes(t: &[u8]) {
-    let mut i: usize = 0;
-    while i < t.len() {
-        let b = t[i] as u64;
-        io::write_all(STDOUT_FILENO, b" ");
-        io::print_hex(STDOUT_FILENO, b, 2);
-        i += 1;
+fn show_bytes(rt: &impl Print, t: &[u8]) -> io::Result<()> {
+    for byte in t {
+        print!(rt; " {byte:02x}")?;
     }
+    Ok(())
 }
 
-fn show_start(t: [u8; 48], n: usize) {
+fn show_start(rt: &impl Print, t: [u8; 48], n: usize) -> io::Result<()> {
     if 48 < n {
-        return;
+        return Ok(());
     }
-    show_bytes(&t[0..n]);
+    show_bytes(rt, &t[0..n])
 }
 
 // UTF-16 units and their text.
-fn show_text(row: [u16; 4]) {
+fn show_text(rt: &impl Print, row: [u16; 4]) -> io::Result<()> {
     let n = row[0] as usize;
     if 3 < n {
-        return;
+        return Ok(());
     }
-    show_units(&row[1..n + 1]);
-    io::write_all(STDOUT_FILENO, b"->");
+    show_units(rt, &row[1..n + 1])?;
+    print!(rt; "->")?;
     let mut units = [0u8; 6];
     area::put_u16(&mut units, 0, row[1]);
     area::put_u16(&mut units, 2, row[2]);
@@ -93,44 +89,41 @@ fn show_text(row: [u16; 4]) {
     let mut bytes = [0u8; 48];
     let len = text::utf16::put_text(&units, 0, n, &mut bytes, 0);
     if len == 0 {
-        io::write_all(STDOUT_FILENO, b" none\n");
-    } else {
-        show_start(bytes, len);
-        io::write_all(STDOUT_FILENO, b"\n");
+        return println!(rt; " none");
     }
+    show_start(rt, bytes, len)?;
+    println!(rt)
 }
 
 // Bytes, and whether they are UTF-8.
-fn show_check(row: [u8; 10]) {
+fn show_check(rt: &impl Print, row: [u8; 10]) -> io::Result<()> {
     let n = row[0] as usize;
     if 9 < n {
-        return;
+        return Ok(());
     }
     if n == 0 {
-        return;
+        return Ok(());
     }
-    io::print_hex(STDOUT_FILENO, row[1] as u64, 2);
-    show_bytes(&row[2..n + 1]);
+    print!(rt; "{:02x}", row[1])?;
+    show_bytes(rt, &row[2..n + 1])?;
     if text::utf8::well_formed(&row[1..n + 1]) {
-        io::write_all(STDOUT_FILENO, b" ok\n");
+        println!(rt; " ok")
     } else {
-        io::write_all(STDOUT_FILENO, b" bad\n");
+        println!(rt; " bad")
     }
 }
 
-fn show_texts() {
-    let mut i: usize = 0;
-    while i < 12 {
-        show_text(UNITS[i]);
-        i += 1;
+fn show_texts(rt: &impl Print) -> io::Result<()> {
+    for row in UNITS {
+        show_text(rt, row)?;
     }
+    Ok(())
 }
 
-fn main() {
-    show_texts();
-    let mut i: usize = 0;
-    while i < 28 {
-        show_check(BYTES[i]);
-        i += 1;
+fn main(rt: HostRuntime) -> io::Result<()> {
+    show_texts(&rt)?;
+    for row in BYTES {
+        show_check(&rt, row)?;
     }
+    Ok(())
 }

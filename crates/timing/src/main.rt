@@ -1,14 +1,23 @@
 // Work to be timed, by tools/bench: the first argument says what (b: the check of us.block, k: lookups in it, r: the check of the ranges of
 // unicode.breaks, t: text conversions, z: scans of 65,536 zeros), the second how many rounds. It prints how many passed, found a character, have a
 // text, or found zeros.
+#![tactic(auto)]
+
 ghost use Rattle.std.specs.Prelude.{true, ◌≡◌, ◌≤◌};
 ghost use Rattle.lookup.specs.Block.{block_ok};
 
-use libc::STDOUT_FILENO;
 use lookup::block::block_ok;
 use lookup::keyboard_layout::{WindowsModifiers, get_key, scancode_for};
 use lookup::keycode::keycode_from_scancode;
 use segmentation::break_table::table_ok;
+use std::env::Env;
+use std::fs::File;
+use std::io;
+use std::io::Read;
+use std::rt::Files;
+
+// The most bytes of a file that are read, and how many zeros there are.
+const MOST: usize = 65536;
 
 // The number that decimal digits spell; one of ten digits and more counts as 0.
 fn rounds_in(t: &[u8]) -> u64 {
@@ -142,50 +151,52 @@ fn repeat(what: u8, bytes: &mut [u8], rounds: u64) -> u64 {
     count
 }
 
-fn show(n: u64) {
-    io::print_decimal(STDOUT_FILENO, n);
-    io::write_all(STDOUT_FILENO, b"\n");
+fn show(rt: &impl Print, n: u64) -> io::Result<()> {
+    println!(rt; "{n}")
 }
 
-fn run(what: u8, bytes: &mut [u8], rounds: u64) {
+fn run(rt: &impl Print, what: u8, bytes: &mut [u8], rounds: u64) -> io::Result<()> {
     if what == b'k' {
-        show(look_up(bytes, rounds));
-        return;
+        return show(rt, look_up(bytes, rounds));
     }
-    show(repeat(what, bytes, rounds));
+    show(rt, repeat(what, bytes, rounds))
 }
 
-fn run_on_file(what: u8, name: &[u8], rounds: u64) {
-    let fd = os::open_read(name);
-    if fd < 0 {
-        os::fail(name);
-        return;
-    }
-    let mut space = io::large_buffer();
-    let len = io::read_full(fd, &mut space);
-    libc::close(fd);
-    run(what, &mut space[..len], rounds);
+fn run_on_file(
+    rt: &(impl Files + Print + Eprint + Alloc),
+    what: u8,
+    name: &str,
+    rounds: u64,
+) -> io::Result<()> {
+    let file = match File::open(rt, name) {
+        Ok(file) => file,
+        Err(error) => return eprintln!(rt; "{name}: {error}"),
+    };
+    let mut space = Vec::new(rt.alloc());
+    file.take(MOST as u64).read_to_end(&mut space)?;
+    run(rt, what, space.as_mut_slice(), rounds)
 }
 
-fn run_on_zeros(what: u8, rounds: u64) {
-    let mut space = io::large_buffer();
-    show(repeat(what, &mut space, rounds));
+fn run_on_zeros(rt: &impl Print, what: u8, rounds: u64) -> io::Result<()> {
+    let mut space = [0u8; MOST];
+    show(rt, repeat(what, &mut space, rounds))
 }
 
-fn main() {
-    let mut word = io::buffer();
-    os::arg(1, &mut word);
+fn main(rt: HostRuntime) -> io::Result<()> {
+    let mut word = [0u8; 4096];
+    let _ = rt.arg(1, &mut word);
     let what = word[0];
-    let mut number = io::buffer();
-    let n = os::arg(2, &mut number);
+    let mut number = [0u8; 4096];
+    let n = match rt.arg(2, &mut number) {
+        Ok(n) => n,
+        Err(_) => 0,
+    };
     let rounds = rounds_in(&number[..n]);
     if what == b't' || what == b'z' {
-        run_on_zeros(what, rounds);
-        return;
+        return run_on_zeros(&rt, what, rounds);
     }
     if what == b'r' {
-        run_on_file(what, b"unicode.breaks", rounds);
-        return;
+        return run_on_file(&rt, what, "unicode.breaks", rounds);
     }
-    run_on_file(what, b"us.block", rounds);
+    run_on_file(&rt, what, "us.block", rounds)
 }
