@@ -1,4 +1,5 @@
 // Lines of text, by which the programs are told what to do: parts of them, numbers, messages, keys.
+#![tactic(auto)]
 
 // ---- places in a run of bytes
 

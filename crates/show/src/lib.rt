@@ -1,6 +1,8 @@
 // What the programs that make calls share: numbers read from any bytes, bytes compared and written, what a call said, what they print.
-use libc::STDOUT_FILENO;
+#![tactic(auto)]
+
 use session::{FinishAnswer, OpenAnswer, ProcResult};
+use std::io;
 
 // ---- numbers from bytes, with the low byte first; 0 where the bytes end before
 
@@ -152,14 +154,16 @@ pub fn same_result(a: ProcResult, b: ProcResult) -> bool {
 
 // ---- what they print
 
-pub fn text(t: &[u8]) {
-    io::write_all(STDOUT_FILENO, t);
+pub fn text(rt: &impl Print, t: &[u8]) -> io::Result<()> {
+    rt.write_all(t)
 }
 
-pub fn decimal(n: u64) {
-    io::print_decimal(STDOUT_FILENO, n);
+pub fn decimal(rt: &impl Print, n: u64) -> io::Result<()> {
+    print!(rt; "{n}")
 }
 
-pub fn hex(n: u64, digits: usize) {
-    io::print_hex(STDOUT_FILENO, n, digits);
+// With zeros in front up to so many digits, sixteen at most.
+pub fn hex(rt: &impl Print, n: u64, digits: usize) -> io::Result<()> {
+    let width = digits.min(16);
+    print!(rt; "{n:0width$x}")
 }

@@ -6,38 +6,38 @@ use borrow.Author.Rules.{rules}
 use Rattle.show.proofs.differing_bits.Statement.{statement}
 use Rattle.show.proofs.differing_bits.Tie as tie
 
-abbrev invariant-loop : tie.invariant-loop
+abbrev invariant-loop : tie.invariant-loop-i
 invariant-loop a b bits₀ i₀ bits i = (length a ≡ length b) × (i ≤ length a)
 
-abbrev decreases-loop : tie.decreases-loop
+abbrev decreases-loop : tie.decreases-loop-i
 decreases-loop a b bits₀ i₀ bits i = length a - i
 
-returns : tie.Need-returns invariant-loop decreases-loop
+returns : tie.Need-returns-then-a-b invariant-loop decreases-loop
 returns c = search rules
 
-loop-holds : tie.Need-loop-init invariant-loop decreases-loop
+loop-holds : tie.Need-loop-i-init invariant-loop decreases-loop
 loop-holds c = search rules
 
-shared-slice-read-bits : tie.Need-shared-slice-read-bits invariant-loop decreases-loop
+shared-slice-read-bits : tie.Need-bounds-a-i invariant-loop decreases-loop
 shared-slice-read-bits c = search rules
 
-shared-slice-read-bits-2 : tie.Need-shared-slice-read-bits-2 invariant-loop decreases-loop
+shared-slice-read-bits-2 : tie.Need-bounds-b-i invariant-loop decreases-loop
 shared-slice-read-bits-2 c = search rules
 
-add-i : tie.Need-overflow-add-i invariant-loop decreases-loop
+add-i : tie.Need-overflow_add-i invariant-loop decreases-loop
 add-i c = search rules
 
-loop-less : tie.Need-loop-smaller invariant-loop decreases-loop
+loop-less : tie.Need-loop-i-smaller invariant-loop decreases-loop
 loop-less c = search rules
 
-loop-again : tie.Need-loop-preserved invariant-loop decreases-loop
+loop-again : tie.Need-loop-i-preserved invariant-loop decreases-loop
 loop-again c = search rules
 
-returns-2 : tie.Need-returns-2 invariant-loop decreases-loop
+returns-2 : tie.Need-returns invariant-loop decreases-loop
 returns-2 c = search rules
 
-pub differing-bits-spec : {M : Type 1} → statement M
-differing-bits-spec =
+pub differing_bits_spec : {M : Type 1} → statement M
+differing_bits_spec =
     tie.close
     (tie.spec
     invariant-loop
