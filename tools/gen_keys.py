@@ -1,7 +1,7 @@
 #!/usr/bin/env python3
 """Writes what is as long as tao's lists of keys: the enum KeyCode, its numbers, the scan codes' match, and their proofs.
 
-Usage, in the repository's folder: TAO_SRC=FOLDER tools/gen_keys.py && rt fmt
+Usage, in the repository's folder: TAO_SRC=FOLDER tools/gen_keys.py, then rt fmt in crates/keys and in crates/lookup
 FOLDER holds tao's keyboard.rs and platform_impl/windows/keycode.rs. What a file holds between two marks is replaced; a file without marks is written whole."""
 import os
 import re
@@ -49,14 +49,18 @@ def lines(form, items):
     return ''.join(form(i, x) + '\n' for i, x in enumerate(items))
 
 
+def snake(name):
+    return re.sub('(?<=[a-z])(?=[A-Z])', '_', name).lower()
+
+
 def places():
     def one(name, value):
         return f'\nabbrev pub {name} : ℕ\n{name} = {value}\n'
     return ('-- Places of cases in tao\'s Key, counted from 0: Character is at 0, Unidentified at 1, Dead at 2, and the keys without a value follow.\n'
-            '-- Assumes nothing.\nuse Prim.Native.Nat.{ℕ}\n'
-            '\n-- the first case without a value' + one('firstNamed', 3)
-            + '\n-- how many cases there are' + one('keyCases', len(KEY))
-            + ''.join(one(p[0].lower() + p[1:], KEY.index(p)) for p in PLACES))
+            '-- Assumes nothing.\nuse Rattle.std.specs.Prelude.{ℕ}\n'
+            '\n-- the first case without a value' + one('first_named', 3)
+            + '\n-- how many cases there are' + one('key_cases', len(KEY))
+            + ''.join(one(snake(p), KEY.index(p)) for p in PLACES))
 
 
 def place_code():
@@ -64,7 +68,7 @@ def place_code():
         public = 'pub ' if name in ('CONTROL', 'NUM_LOCK', 'PAUSE') else ''
         return f'{public}const {name}: u16 = {value};\n\n'
     return (one('FIRST_NAMED', 3) + one('KEY_CASES', len(KEY))
-            + ''.join(one(re.sub('(?<=[a-z])(?=[A-Z])', '_', p).upper(), KEY.index(p)) for p in PLACES))
+            + ''.join(one(snake(p).upper(), KEY.index(p)) for p in PLACES))
 
 
 def number_specs():
@@ -72,44 +76,43 @@ def number_specs():
         return f'{name} (kc.Unidentified c) = {first}\n' + lines(lambda i, c: f'{name} kc.{c} = {plain(i + 1)}', PLAIN)
     return f'''-- A key code's place in tao's KeyCode, and the key code at a place.
 -- Assumes nothing.
-use Prim.Native.Nat.{{ℕ}}
-use mathlib.Core.List.{{List, [], _∷_}}
-use Rattle·area.specs.Look.{{assoc}}
-use Rattle·keys·specs.specs.declared.NativeKeyCode.{{NativeKeyCode}}
-use Rattle·keys·specs.specs.declared.NativeKeyCode.the-variants as nat
-use Rattle·keys·specs.specs.declared.key_code.KeyCode.{{KeyCode}}
-use Rattle·keys·specs.specs.declared.key_code.KeyCode.the-variants as kc
+use Rattle.std.specs.Prelude.{{ℕ, List, [], ◌∷◌}}
+use Rattle.area.specs.Look.{{assoc}}
+use Rattle.keys.specs.declared.NativeKeyCode.{{NativeKeyCode}}
+use Rattle.keys.specs.declared.NativeKeyCode.TheVariants as nat
+use Rattle.keys.specs.declared.key_code.KeyCode.{{KeyCode}}
+use Rattle.keys.specs.declared.key_code.KeyCode.TheVariants as kc
 
 -- how many cases there are
-abbrev pub codeCases : ℕ
-codeCases = {len(CODE)}
+abbrev pub code_cases : ℕ
+code_cases = {len(CODE)}
 
 -- the place of the case, from 0
-unfoldable pub codeNumber : KeyCode → ℕ
-{clauses('codeNumber', '0', str)}
+unfoldable pub code_number : KeyCode → ℕ
+{clauses('code_number', '0', str)}
 -- the native code that an unidentified key code holds
-unfoldable pub codeNative : KeyCode → NativeKeyCode
-{clauses('codeNative', 'c', lambda i: 'nat.Unidentified')}
+unfoldable pub code_native : KeyCode → NativeKeyCode
+{clauses('code_native', 'c', lambda i: 'nat.Unidentified')}
 -- the key codes that hold nothing, each with its place
 unfoldable pub codes : List (ℕ × KeyCode)
 codes =
 {lines(lambda i, c: f'    ({i + 1}, kc.{c}) ∷', PLAIN)}    []
 
 -- the key code at a place; at 0 and past the last, the unidentified one with that native code
-unfoldable pub codeAt : ℕ → NativeKeyCode → KeyCode
-codeAt n c = assoc codes (kc.Unidentified c) n
+unfoldable pub code_at : ℕ → NativeKeyCode → KeyCode
+code_at n c = assoc codes (kc.Unidentified c) n
 '''
 
 
 def enum():
-    return f'// How many cases tao\'s KeyCode has.\nconst CODE_CASES: u64 = {len(CODE)};\n\n// The place of a physical key, in tao\'s order.\n' + 'pub enum KeyCode {\n    Unidentified(NativeKeyCode),\n' + lines(lambda i, c: f'    {c},', PLAIN) + '}\n'
+    return f'// How many cases tao\'s KeyCode has.\nconst CODE_CASES: u64 = {len(CODE)};\n\n// The place of a physical key, in tao\'s order.\n' + '#[derive(Clone, Copy)]\npub enum KeyCode {\n    Unidentified(NativeKeyCode),\n' + lines(lambda i, c: f'    {c},', PLAIN) + '}\n'
 
 
 def number_code():
     arms = lines(lambda i, c: f'        KeyCode::{c} => return {i + 1},', PLAIN)
     return f'''// The place of a key code in tao's KeyCode. Each arm returns by itself: code behind the match would be proved once for every arm.
 pub fn code_number(c: KeyCode) -> u16
-    ensures {{ λ r. ⌜ r ≡ codeNumber c ⌝ }}
+    ensures {{ result ≡ code_number c }}
 {{
     match c {{
         KeyCode::Unidentified(_) => return 0,
@@ -119,16 +122,16 @@ pub fn code_number(c: KeyCode) -> u16
 
 
 def code_number_proof():
-    answers = ''.join(f'    (λ c. c .match .keys{i})\n    (λ c. tagged (c .before .before .args .c) (c .before .match .keys{i}))\n'
-                      for i in range(1, len(CODE) + 1))
+    answers = ''.join(f'    (λ c. c.in-{c}-1.keys{i + 1})\n    (λ c. tagged c.args.c c.in-{c}.in-{c}-own.keys{i + 1})\n'
+                      for i, c in enumerate(['Unidentified'] + PLAIN))
     return f'''-- `keys::key_code::code_number` meets its contract: a key code's place is its tag, and in each arm the tag is the arm's number.
 -- Assumes nothing.
-use Rattle·keys·proofs.proofs.key_code.Tags.{{tagged}}
-use Rattle·keys·proofs.proofs.key_code.code_number.Statement.{{statement}}
-use Rattle·keys·proofs.proofs.key_code.code_number.Tie as tie
+use Rattle.keys.proofs.key_code.Tags.{{tagged}}
+use Rattle.keys.proofs.key_code.code_number.Statement.{{statement}}
+use Rattle.keys.proofs.key_code.code_number.Tie as tie
 
-pub code-number-spec : {{M : Type 1}} → statement M
-code-number-spec =
+pub code_number_spec : {{M : Type 1}} → statement M
+code_number_spec =
     tie.close
     (tie.spec
 {answers.rstrip()})
@@ -138,16 +141,16 @@ code-number-spec =
 def each_code_proof():
     return f'''-- What is checked of each key code by computing: its number leads back to it and is below the number of cases.
 -- Assumes nothing.
-use mathlib.Core.Path.{{_≡_, refl}}
+use mathlib.Core.Path.{{◌≡◌, refl}}
 use mathlib.Core.Bool.{{true}}
 use lib.Dec.{{ltb}}
-use Rattle·area.specs.Look.{{assoc}}
-use Rattle·keys·specs.specs.declared.key_code.KeyCode.{{KeyCode}}
-use Rattle·keys·specs.specs.declared.key_code.KeyCode.the-variants as kc
-use Rattle·keys·specs.specs.Number.{{codeCases, codeNumber, codeNative, codes, codeAt}}
+use Rattle.area.specs.Look.{{assoc}}
+use Rattle.keys.specs.declared.key_code.KeyCode.{{KeyCode}}
+use Rattle.keys.specs.declared.key_code.KeyCode.TheVariants as kc
+use Rattle.keys.specs.Number.{{code_cases, code_number, code_native, codes, code_at}}
 
-pub each-code : (c : KeyCode) → (codeAt (codeNumber c) (codeNative c) ≡ c) × (ltb (codeNumber c) codeCases ≡ true)
-unfolding codeNumber codeNative codeAt codes assoc
+pub each-code : (c : KeyCode) → (code_at (code_number c) (code_native c) ≡ c) × (ltb (code_number c) code_cases ≡ true)
+unfolding code_number code_native code_at codes assoc
 each-code (kc.Unidentified held) = (refl, refl)
 {lines(lambda i, c: f'each-code kc.{c} = (refl, refl)', PLAIN)}'''
 
@@ -155,7 +158,7 @@ each-code (kc.Unidentified held) = (refl, refl)
 def scan_code():
     arms = lines(lambda i, a: f'        {" | ".join(a[0])} => return KeyCode::{a[1]},', ARMS)
     return f'''pub fn keycode_from_scancode(scancode: u16) -> KeyCode
-    ensures {{ λ r. ⌜ r ≡ keyCodeOf scancode ⌝ }}
+    ensures {{ result ≡ key_code_of scancode }}
 {{
     match scancode {{
 {arms}        _ => return KeyCode::Unidentified(NativeKeyCode::Windows(scancode)),
@@ -166,23 +169,22 @@ def scan_code():
 
 def scan_specs():
     rows = ''.join(f'    ({code}, kc.{key}) ∷\n' for codes, key in ARMS for code in codes)
-    return f'''-- The key code of a scan code, as tao's keycode.rs lists them.
+    return f'''-- The key code of a scan code, as tao's keycode.rs lists them (SCOPE 5.4).
 -- Assumes nothing.
-use Prim.Native.Nat.{{ℕ}}
-use mathlib.Core.List.{{List, [], _∷_}}
-use Rattle·area.specs.Look.{{assoc}}
-use Rattle·keys.specs.declared.NativeKeyCode.the-variants as nat
-use Rattle·keys.specs.declared.key_code.KeyCode.{{KeyCode}}
-use Rattle·keys.specs.declared.key_code.KeyCode.the-variants as kc
+use Rattle.std.specs.Prelude.{{ℕ, List, [], ◌∷◌}}
+use Rattle.area.specs.Look.{{assoc}}
+use Rattle.keys.specs.declared.NativeKeyCode.TheVariants as nat
+use Rattle.keys.specs.declared.key_code.KeyCode.{{KeyCode}}
+use Rattle.keys.specs.declared.key_code.KeyCode.TheVariants as kc
 
 -- the codes that it lists; where two share a key, the lower one first
-unfoldable pub scanCodes : List (ℕ × KeyCode)
-scanCodes =
+unfoldable pub scan_codes : List (ℕ × KeyCode)
+scan_codes =
 {rows}    []
 
 -- an unlisted code is unidentified, with the code inside
-unfoldable pub keyCodeOf : ℕ → KeyCode
-keyCodeOf n = assoc scanCodes (kc.Unidentified (nat.Windows n)) n
+unfoldable pub key_code_of : ℕ → KeyCode
+key_code_of n = assoc scan_codes (kc.Unidentified (nat.Windows n)) n
 '''
 
 
@@ -190,45 +192,45 @@ def scan_proof():
     keys = ''.join('    (' + ' ∷ '.join(codes) + ' ∷ []) ∷\n' for codes, _ in reversed(ARMS))
 
     def answer(i, row):
-        way, key = f'c .match .keys{i + 1}', row[1]
+        way, key = f'c.in-{int(row[0][0], 16)}.is', row[1]
         if len(row[0]) == 1:
-            return f'    (λ c. listed kc.{key} ({way}) refl)'
-        return f'    (λ c. ⊎-elim (λ h. listed kc.{key} h refl) (λ h. listed kc.{key} h refl) ({way}))'
+            return f'    (λ c. listed kc.{key} {way} refl)'
+        return f'    (λ c. ⊎_elim (λ h. listed kc.{key} h refl) (λ h. listed kc.{key} h refl) {way})'
     return f'''-- `lookup::keycode::keycode_from_scancode` meets its contract: each arm's code is looked up by computing, and the arm `_` by `missed`.
 -- Assumes nothing.
-use mathlib.Core.Path.{{_≡_, refl, sym, ap, _∙_}}
-use mathlib.Core.List.{{List, [], _∷_}}
-use mathlib.Core.Logic.{{⊎-elim}}
+use mathlib.Core.Path.{{◌≡◌, refl, sym, ap, ◌∙◌}}
+use mathlib.Core.List.{{List, [], ◌∷◌}}
+use mathlib.Core.Logic.{{⊎_elim}}
 use Prim.Native.Nat.{{ℕ}}
-use Rattle·area.specs.Look.{{assoc}}
-use Rattle·area.proofs.Switch.{{Rest, missed}}
-use Rattle·keys.specs.declared.NativeKeyCode.the-variants as nat
-use Rattle·keys.specs.declared.key_code.KeyCode.{{KeyCode}}
-use Rattle·keys.specs.declared.key_code.KeyCode.the-variants as kc
-use Rattle·lookup·specs.specs.Codes.{{scanCodes, keyCodeOf}}
-use Rattle·lookup·proofs.proofs.keycode.keycode_from_scancode.Statement.{{statement}}
-use Rattle·lookup·proofs.proofs.keycode.keycode_from_scancode.Tie as tie
+use Rattle.area.specs.Look.{{assoc}}
+use Rattle.area.proofs.Switch.{{Rest, missed}}
+use Rattle.keys.specs.declared.NativeKeyCode.TheVariants as nat
+use Rattle.keys.specs.declared.key_code.KeyCode.{{KeyCode}}
+use Rattle.keys.specs.declared.key_code.KeyCode.TheVariants as kc
+use Rattle.lookup.specs.Codes.{{scan_codes, key_code_of}}
+use Rattle.lookup.proofs.keycode.keycode_from_scancode.Statement.{{statement}}
+use Rattle.lookup.proofs.keycode.keycode_from_scancode.Tie as tie
 
 -- the arms' codes, the last arm first
 abbrev arms : List (List ℕ)
 arms =
 {keys}    []
 
--- the two laws leave keyCodeOf shut in the proof, so that a wrong arm is refused without computing it
-listed : (r : KeyCode) {{x k : ℕ}} → x ≡ k → assoc scanCodes (kc.Unidentified (nat.Windows k)) k ≡ r → r ≡ keyCodeOf x
-unfolding keyCodeOf
-listed r h e = sym e ∙ sym (ap keyCodeOf h)
+-- the two laws leave key_code_of shut in the proof, so that a wrong arm is refused without computing it
+listed : (r : KeyCode) {{x k : ℕ}} → x ≡ k → assoc scan_codes (kc.Unidentified (nat.Windows k)) k ≡ r → r ≡ key_code_of x
+unfolding key_code_of
+listed r h e = sym e ∙ sym (ap key_code_of h)
 
-unlisted : (n : ℕ) → Rest arms n → kc.Unidentified (nat.Windows n) ≡ keyCodeOf n
-unfolding keyCodeOf scanCodes
-unlisted n rest = missed arms n (kc.Unidentified (nat.Windows n)) scanCodes rest tt
+unlisted : (n : ℕ) → Rest arms n → kc.Unidentified (nat.Windows n) ≡ key_code_of n
+unfolding key_code_of scan_codes
+unlisted n rest = missed arms n (kc.Unidentified (nat.Windows n)) scan_codes rest tt
 
-pub keycode-from-scancode-spec : {{M : Type 1}} → statement M
-unfolding scanCodes assoc
-keycode-from-scancode-spec =
+pub keycode_from_scancode_spec : {{M : Type 1}} → statement M
+unfolding scan_codes assoc
+keycode_from_scancode_spec =
     tie.close
     (tie.spec
-{lines(answer, ARMS)}    (λ c. unlisted (c .before .args .scancode) (c .match .rest)))
+{lines(answer, ARMS)}    (λ c. unlisted c.before.args.scancode c.in_default.in_default-own.rest))
 '''
 
 
