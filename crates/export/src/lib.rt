@@ -54,7 +54,7 @@ fn peeked_at(peeked: u32, kind: u32, wparam: u64, lparam: u64) -> Peeked
 }
 
 // Takes a message: 0, or the number of the question that refused it. `token` becomes the token of the message that was opened, or
-// 4,294,967,295 where none was; `result` what becomes of the message result: 0 it stays as it was, 1 the default procedure's, 2 value 0.
+// 4,294,967,295 where none was; `res` what becomes of the message result: 0 it stays as it was, 1 the default procedure's, 2 value 0.
 pub fn mahjonglarch_open(
     session: &mut [u8],
     answers: &mut [u8],

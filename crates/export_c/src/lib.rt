@@ -30,7 +30,7 @@ pub extern "C" fn mahjonglarch_fresh(session: &mut [u8]) -> u32
 }
 
 // Takes a message: 0, or the number of the question that refused it. `token` becomes the token of the message that was opened, or
-// 4,294,967,295 where none was; `result` what becomes of the message result: 0 it stays as it was, 1 the default procedure's, 2 value 0.
+// 4,294,967,295 where none was; `res` what becomes of the message result: 0 it stays as it was, 1 the default procedure's, 2 value 0.
 #[unsafe(no_mangle)]
 pub extern "C" fn mahjonglarch_open(
     session: &mut [u8],

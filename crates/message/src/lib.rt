@@ -33,7 +33,7 @@ fn answered(answer: OpenAnswer, res: ProcResult) -> Opened
     }
 }
 
-// SCOPE 1.1, 2.2: takes a message. `result` is the message result as it was.
+// SCOPE 1.1, 2.2: takes a message. `res` is the message result as it was.
 pub fn open(
     session: &mut [u8],
     answers: &mut [u8],

@@ -35,8 +35,8 @@ pub fn process_message(
     a.answer
 }
 
-// SCOPE 3.3, 10.8: takes a message by process_message, which it lends a message result: `result` is its value before, and the answer has its value
-// after. A program that lends one is proved by hand; one that calls this is not.
+// SCOPE 3.3, 10.8: takes a message by process_message, which it lends a message result: `res` is its value before, and the answer has its value
+// after.
 pub fn lend_result(
     session: &mut [u8],
     answers: &mut [u8],
