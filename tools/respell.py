@@ -6,7 +6,7 @@ usage: tools/respell.py [REPO]
 A row is old, a tab, new. A name of the table turns as a whole word: in .antt files and in the clauses and ghost items of .rt files, in must-fail
 edits, and in the code spans of pages (.md). In comments only names with an inner capital or of capitals alone turn, since a word with a dash may be
 English there. Text in quotation marks stays. A row whose old name ends in * turns a lemma's name that a definition of the table takes: not behind a
-dot, where it is a module's or a step's name. It prints how many files it wrote. A second run writes none.
+dot, where it is a module's or a step's name; so a second run would turn such a name again. It prints how many files it wrote.
 """
 import os
 import re
