@@ -7,10 +7,15 @@
 //
 // It prints how many calls passed and events were handed out, added up, and how many entries the queue is left with; of f and g how
 // many rounds read what they had written.
+#![tactic(auto)]
+
 use event::peeked::Peeked;
 use lookup::block::HEAD;
 use session::{AREA_SIZE, COUNT_AT, ENTRIES_AT, ENTRY_SIZE, PendingMessageToken, ProcResult};
 use show::{Said, decimal, text, u16_at};
+use std::io::Read;
+use std::rt::{Env, Runtime};
+use std::{fs, io};
 
 #[derive(Clone, Copy)]
 struct Message {
@@ -287,16 +292,22 @@ fn counted_of(
     digits(session, answers, state, block, table, rounds)
 }
 
-fn show_count(count: u64, session: &[u8; AREA_SIZE]) {
-    decimal(count);
-    text(b" counted, ");
-    decimal(u16_at(session, COUNT_AT) as u64);
-    text(b" entries\n");
+fn show_count(rt: &impl Print, count: u64, session: &[u8; AREA_SIZE]) -> io::Result<()> {
+    decimal(rt, count)?;
+    text(rt, b" counted, ")?;
+    decimal(rt, u16_at(session, COUNT_AT) as u64)?;
+    text(rt, b" entries\n")
 }
 
-fn run(what: u8, block: &mut [u8], table: &mut [u8], rounds: u64) {
-    let mut session = io::large_buffer();
-    let mut answers = io::large_buffer();
+fn run(
+    rt: &impl Print,
+    what: u8,
+    block: &mut [u8],
+    table: &mut [u8],
+    rounds: u64,
+) -> io::Result<()> {
+    let mut session = [0u8; AREA_SIZE];
+    let mut answers = [0u8; AREA_SIZE];
     let state = [0u8; 256];
     record::write::fresh(&mut session);
     let count = counted_of(
@@ -308,49 +319,44 @@ fn run(what: u8, block: &mut [u8], table: &mut [u8], rounds: u64) {
         table,
         rounds,
     );
-    show_count(count, &session);
+    show_count(rt, count, &session)
 }
 
-fn run_with_us(what: u8, block: &mut [u8], rounds: u64) {
-    let fd = os::open_read(b"unicode.breaks");
-    if fd < 0 {
-        os::fail(b"unicode.breaks");
-        return;
-    }
-    let mut space = io::large_buffer();
-    let n = io::read_full(fd, &mut space);
-    libc::close(fd);
-    run(what, block, &mut space[..n], rounds);
+fn run_with_us(rt: &impl Runtime, what: u8, block: &mut [u8], rounds: u64) -> io::Result<()> {
+    let file = match fs::open(rt, "unicode.breaks") {
+        Ok(file) => file,
+        Err(e) => return eprintln!(rt; "unicode.breaks: {e}"),
+    };
+    let mut space = Vec::new(rt.alloc());
+    file.take(65536).read_to_end(&mut space)?;
+    run(rt, what, block, space.as_mut_slice(), rounds)
 }
 
-fn run_on_us(what: u8, rounds: u64) {
-    let fd = os::open_read(b"us.block");
-    if fd < 0 {
-        os::fail(b"us.block");
-        return;
-    }
-    let mut space = io::large_buffer();
-    let n = io::read_full(fd, &mut space);
-    libc::close(fd);
-    run_with_us(what, &mut space[..n], rounds);
+fn run_on_us(rt: &impl Runtime, what: u8, rounds: u64) -> io::Result<()> {
+    let file = match fs::open(rt, "us.block") {
+        Ok(file) => file,
+        Err(e) => return eprintln!(rt; "us.block: {e}"),
+    };
+    let mut space = Vec::new(rt.alloc());
+    file.take(65536).read_to_end(&mut space)?;
+    run_with_us(rt, what, space.as_mut_slice(), rounds)
 }
 
-fn run_on_smallest(what: u8, rounds: u64) {
+fn run_on_smallest(rt: &impl Print, what: u8, rounds: u64) -> io::Result<()> {
     let mut block = [0u8; HEAD];
     let mut table = [0u8; 8];
-    run(what, &mut block, &mut table, rounds);
+    run(rt, what, &mut block, &mut table, rounds)
 }
 
-fn main() {
-    let mut word = io::buffer();
-    os::arg(1, &mut word);
+fn main(rt: HostRuntime) -> io::Result<()> {
+    let mut word = [0u8; 4096];
+    let _ = rt.arg(1, &mut word);
     let what = word[0];
-    let mut number = io::buffer();
-    let n = os::arg(2, &mut number);
+    let mut number = [0u8; 4096];
+    let n = rt.arg(2, &mut number).unwrap_or(0);
     let rounds = rounds_in(&number[..n]);
     if what == b'u' || what == b'v' || what == b'g' {
-        run_on_us(what, rounds);
-        return;
+        return run_on_us(&rt, what, rounds);
     }
-    run_on_smallest(what, rounds);
+    run_on_smallest(&rt, what, rounds)
 }

@@ -16,13 +16,17 @@
 //   events: NAME               how many events the last call handed out
 //
 // Numbers are hexadecimal; what is printed is decimal.
+#![tactic(auto)]
+
 ghost use Rattle.std.specs.Prelude.{◌≤◌};
 
 use event::peeked::Peeked;
-use libc::STDIN_FILENO;
 use lines::{Message, behind, find, message_at, number_at, part};
 use session::{AREA_SIZE, PendingMessageToken, ProcResult};
 use show::{Said, byte_at, decimal, text};
+use std::io::Read;
+use std::rt::Runtime;
+use std::{fs, io};
 
 // A message that was peeked, by its kind.
 fn peeked_of(kind: u64) -> Peeked {
@@ -41,59 +45,55 @@ fn unchanged(bytes: &[u8], was: &[u8]) -> bool {
 
 // ---- what was said
 
-fn show_kept(kept: bool) {
+fn show_kept(rt: &impl Print, kept: bool) -> io::Result<()> {
     if kept {
-        text(b", kept\n");
+        text(rt, b", kept\n")
     } else {
-        text(b", changed\n");
+        text(rt, b", changed\n")
     }
 }
 
-fn show_refused(number: u32, kept: bool) {
-    text(b"refused ");
-    decimal(number as u64);
-    show_kept(kept);
+fn show_refused(rt: &impl Print, number: u32, kept: bool) -> io::Result<()> {
+    text(rt, b"refused ")?;
+    decimal(rt, number as u64)?;
+    show_kept(rt, kept)
 }
 
 // What passed: nothing is open for it, or a message with its token is.
-fn show_passed(s: Said) {
+fn show_passed(rt: &impl Print, s: Said) -> io::Result<()> {
     if s.what == 1 {
-        text(b"passed");
-        return;
+        return text(rt, b"passed");
     }
-    text(b"opened, token ");
-    decimal(s.number as u64);
+    text(rt, b"opened, token ")?;
+    decimal(rt, s.number as u64)
 }
 
 // A value: the 0 that a message leaves, or 7 or 9, which the steps set.
-fn show_value(v: i64) {
+fn show_value(rt: &impl Print, v: i64) -> io::Result<()> {
     if v == 0 {
-        text(b"0");
-        return;
+        return text(rt, b"0");
     }
     if v == 7 {
-        text(b"7");
-        return;
+        return text(rt, b"7");
     }
     if v == 9 {
-        text(b"9");
-        return;
+        return text(rt, b"9");
     }
-    text(b"another");
+    text(rt, b"another")
 }
 
-fn show_result(r: ProcResult) {
-    text(b", result ");
+fn show_result(rt: &impl Print, r: ProcResult) -> io::Result<()> {
+    text(rt, b", result ")?;
     match r {
-        ProcResult::DefWindowProc => text(b"default"),
-        ProcResult::Value(v) => show_value(v),
+        ProcResult::DefWindowProc => text(rt, b"default")?,
+        ProcResult::Value(v) => show_value(rt, v)?,
     }
-    text(b"\n");
+    text(rt, b"\n")
 }
 
-fn show_number(n: u64) {
-    decimal(n);
-    text(b"\n");
+fn show_number(rt: &impl Print, n: u64) -> io::Result<()> {
+    decimal(rt, n)?;
+    text(rt, b"\n")
 }
 
 // ---- calls
@@ -142,6 +142,7 @@ fn finish(
 
 // An open that is shown, a refused one with whether it kept everything. Answers the message result behind it.
 fn show_open(
+    rt: &impl Print,
     session: &mut [u8],
     answers: &mut [u8],
     state: &[u8],
@@ -149,9 +150,9 @@ fn show_open(
     table: &[u8],
     m: Message,
     res: ProcResult,
-) -> ProcResult {
-    let mut session_was = io::large_buffer();
-    let mut answers_was = io::large_buffer();
+) -> io::Result<ProcResult> {
+    let mut session_was = [0u8; AREA_SIZE];
+    let mut answers_was = [0u8; AREA_SIZE];
     // what no call writes, so that a change is seen
     show::fill(answers, 7);
     show::copy(session, &mut session_was);
@@ -161,25 +162,26 @@ fn show_open(
     let after = o.result;
     if s.what == 0 {
         let areas_kept = unchanged(session, &session_was) && unchanged(answers, &answers_was);
-        show_refused(s.number, areas_kept && show::same_result(res, after));
+        show_refused(rt, s.number, areas_kept && show::same_result(res, after))?;
     } else {
-        show_passed(s);
-        show_result(after);
+        show_passed(rt, s)?;
+        show_result(rt, after)?;
     }
-    after
+    Ok(after)
 }
 
 // A finish with nothing peeked that is shown.
 fn show_finish(
+    rt: &impl Print,
     session: &mut [u8],
     answers: &mut [u8],
     state: &[u8],
     block: &[u8],
     table: &[u8],
     token: u32,
-) {
-    let mut session_was = io::large_buffer();
-    let mut answers_was = io::large_buffer();
+) -> io::Result<()> {
+    let mut session_was = [0u8; AREA_SIZE];
+    let mut answers_was = [0u8; AREA_SIZE];
     // what no call writes, so that a change is seen
     show::fill(answers, 7);
     show::copy(session, &mut session_was);
@@ -195,15 +197,16 @@ fn show_finish(
     );
     if s.what == 0 {
         let kept = unchanged(session, &session_was) && unchanged(answers, &answers_was);
-        show_refused(s.number, kept);
+        show_refused(rt, s.number, kept)
     } else {
-        show_passed(s);
-        text(b"\n");
+        show_passed(rt, s)?;
+        text(rt, b"\n")
     }
 }
 
 // A message or a finish. Answers the message result behind it, which a finish does not see.
 fn show_call(
+    rt: &impl Print,
     session: &mut [u8],
     answers: &mut [u8],
     state: &[u8],
@@ -211,9 +214,10 @@ fn show_call(
     table: &[u8],
     line: &[u8],
     res: ProcResult,
-) -> ProcResult {
+) -> io::Result<ProcResult> {
     if byte_at(line, 0) == b'm' {
         return show_open(
+            rt,
             session,
             answers,
             state,
@@ -225,14 +229,15 @@ fn show_call(
     }
     let t = number_at(line, 6);
     show_finish(
+        rt,
         session,
         answers,
         state,
         block,
         table,
         (t.value % 0x1_0000_0000) as u32,
-    );
-    res
+    )?;
+    Ok(res)
 }
 
 // ---- a call that is given less
@@ -253,6 +258,7 @@ fn lacks(short: u64, digit: u64) -> bool {
 }
 
 fn show_cut(
+    rt: &impl Print,
     session: &mut [u8],
     answers: &mut [u8],
     state: &[u8],
@@ -261,13 +267,14 @@ fn show_cut(
     line: &[u8],
     short: u64,
     res: ProcResult,
-) -> ProcResult {
+) -> io::Result<ProcResult> {
     let of_session = cut(session.len(), lacks(short, 1));
     let of_answers = cut(answers.len(), lacks(short, 2));
     let of_state = cut(state.len(), lacks(short, 3));
     let of_block = cut(block.len(), lacks(short, 4));
     let of_table = cut(table.len(), lacks(short, 5));
     show_call(
+        rt,
         &mut session[0..of_session],
         &mut answers[0..of_answers],
         &state[0..of_state],
@@ -395,6 +402,7 @@ fn many(
 
 // A step with a name: what stands behind its colon, and what it gave. Answers the message result behind it.
 fn show_step(
+    rt: &impl Print,
     session: &mut [u8; AREA_SIZE],
     answers: &mut [u8; AREA_SIZE],
     state: &[u8; 256],
@@ -403,21 +411,24 @@ fn show_step(
     line: &[u8],
     short: u64,
     res: ProcResult,
-) -> ProcResult {
+) -> io::Result<ProcResult> {
     let colon = find(line, 0, b':');
-    text(part(line, behind(line, behind(line, colon)), line.len()));
-    text(b": ");
+    text(
+        rt,
+        part(line, behind(line, behind(line, colon)), line.len()),
+    )?;
+    text(rt, b": ")?;
     let what = byte_at(line, 0);
     if what == b'e' {
-        show_number(show::u16_at(answers, 0) as u64);
-        return res;
+        show_number(rt, show::u16_at(answers, 0) as u64)?;
+        return Ok(res);
     }
     if what == b'm' || what == b'f' {
-        return show_cut(session, answers, state, block, table, line, short, res);
+        return show_cut(rt, session, answers, state, block, table, line, short, res);
     }
     let p = many(session, answers, state, block, table, line, res);
-    show_number(p.count);
-    p.result
+    show_number(rt, p.count)?;
+    Ok(p.result)
 }
 
 // A step without a name.
@@ -457,9 +468,9 @@ fn result_of(line: &[u8], before: ProcResult) -> ProcResult {
     before
 }
 
-fn show_all(block: &[u8], table: &[u8], input: &[u8]) {
-    let mut session = io::large_buffer();
-    let mut answers = io::large_buffer();
+fn show_all(rt: &impl Print, block: &[u8], table: &[u8], input: &[u8]) -> io::Result<()> {
+    let mut session = [0u8; AREA_SIZE];
+    let mut answers = [0u8; AREA_SIZE];
     let mut state = [0u8; 256];
     let mut short: u64 = 0;
     let mut result = ProcResult::DefWindowProc;
@@ -471,6 +482,7 @@ fn show_all(block: &[u8], table: &[u8], input: &[u8]) {
         short = short_of(line, short);
         if is_named(line) {
             result = show_step(
+                rt,
                 &mut session,
                 &mut answers,
                 &state,
@@ -479,7 +491,7 @@ fn show_all(block: &[u8], table: &[u8], input: &[u8]) {
                 line,
                 short,
                 result,
-            );
+            )?;
         } else {
             result = result_of(line, result);
             prepare(&mut session, &mut state, line);
@@ -487,34 +499,31 @@ fn show_all(block: &[u8], table: &[u8], input: &[u8]) {
         at = behind(input, to);
         turn += 1;
     }
+    Ok(())
 }
 
-fn with_table(block: &[u8], table: &[u8]) {
-    let mut space = io::large_buffer();
-    let n = io::read_full(STDIN_FILENO, &mut space);
-    show_all(block, table, &space[..n]);
+fn with_table(rt: &impl Runtime, block: &[u8], table: &[u8]) -> io::Result<()> {
+    let mut space = Vec::new(rt.alloc());
+    rt.reader().take(65536).read_to_end(&mut space)?;
+    show_all(rt, block, table, space.as_slice())
 }
 
-fn with_block(block: &[u8]) {
-    let fd = os::open_read(b"most.breaks");
-    if fd < 0 {
-        os::fail(b"most.breaks");
-        return;
-    }
-    let mut space = io::large_buffer();
-    let n = io::read_full(fd, &mut space);
-    libc::close(fd);
-    with_table(block, &space[..n]);
+fn with_block(rt: &impl Runtime, block: &[u8]) -> io::Result<()> {
+    let file = match fs::open(rt, "most.breaks") {
+        Ok(file) => file,
+        Err(e) => return eprintln!(rt; "most.breaks: {e}"),
+    };
+    let mut space = Vec::new(rt.alloc());
+    file.take(65536).read_to_end(&mut space)?;
+    with_table(rt, block, space.as_slice())
 }
 
-fn main() {
-    let fd = os::open_read(b"one-key.block");
-    if fd < 0 {
-        os::fail(b"one-key.block");
-        return;
-    }
-    let mut space = io::large_buffer();
-    let n = io::read_full(fd, &mut space);
-    libc::close(fd);
-    with_block(&space[..n]);
+fn main(rt: HostRuntime) -> io::Result<()> {
+    let file = match fs::open(&rt, "one-key.block") {
+        Ok(file) => file,
+        Err(e) => return eprintln!(rt; "one-key.block: {e}"),
+    };
+    let mut space = Vec::new(rt.alloc());
+    file.take(65536).read_to_end(&mut space)?;
+    with_block(&rt, space.as_slice())
 }

@@ -1,7 +1,11 @@
 // Replays calls with tao's own answers (data/calls, whose form oracle/README.md describes), and says where an answer is another.
+#![tactic(auto)]
+
 use event::peeked::Peeked;
 use session::{ANSWER_EVENT_SIZE, AREA_SIZE, COUNT_AT, PendingMessageToken, ProcResult};
 use show::{Said, byte_at, decimal, text, u16_at, u32_at, u64_at};
+use std::io::Read;
+use std::{fs, io};
 
 // ---- the file
 
@@ -231,35 +235,39 @@ fn areas_differ(r: &[u8], session: &[u8], answers: &[u8], expected: &[u8]) -> Di
 
 // ---- what is printed
 
-fn show_count(calls: u64, events: u64) {
-    decimal(calls);
-    text(b" calls, ");
-    decimal(events);
-    text(b" events");
+fn show_count(rt: &impl Print, calls: u64, events: u64) -> io::Result<()> {
+    decimal(rt, calls)?;
+    text(rt, b" calls, ")?;
+    decimal(rt, events)?;
+    text(rt, b" events")
 }
 
-fn show_event_place(at: usize) {
+fn show_event_place(rt: &impl Print, at: usize) -> io::Result<()> {
     if at < 2 {
-        text(b"their number");
-        return;
+        return text(rt, b"their number");
     }
-    text(b"event ");
-    decimal(((at - 2) / ANSWER_EVENT_SIZE) as u64);
-    text(b", byte ");
-    decimal(((at - 2) % ANSWER_EVENT_SIZE) as u64);
+    text(rt, b"event ")?;
+    decimal(rt, ((at - 2) / ANSWER_EVENT_SIZE) as u64)?;
+    text(rt, b", byte ")?;
+    decimal(rt, ((at - 2) % ANSWER_EVENT_SIZE) as u64)
 }
 
 // What the last call of a script did otherwise than tao; nothing where it did not.
-fn show_difference(d: Differs, answers: &[u8; AREA_SIZE], expected: &[u8; AREA_SIZE]) {
+fn show_difference(
+    rt: &impl Print,
+    d: Differs,
+    answers: &[u8; AREA_SIZE],
+    expected: &[u8; AREA_SIZE],
+) -> io::Result<()> {
     match d {
-        Differs::Nowhere => {}
-        Differs::Answer => text(b"another answer\n"),
-        Differs::Result => text(b"another result\n"),
-        Differs::Session => text(b"another session\n"),
+        Differs::Nowhere => Ok(()),
+        Differs::Answer => text(rt, b"another answer\n"),
+        Differs::Result => text(rt, b"another result\n"),
+        Differs::Session => text(rt, b"another session\n"),
         Differs::Events => {
-            text(b"other events: ");
-            show_event_place(show::first_difference(answers, expected));
-            text(b"\n");
+            text(rt, b"other events: ")?;
+            show_event_place(rt, show::first_difference(answers, expected))?;
+            text(rt, b"\n")
         }
     }
 }
@@ -419,22 +427,23 @@ fn play(
 
 // One script from its name on, with its line.
 fn play_named(
+    rt: &impl Print,
     d: &[u8],
     from: usize,
     session: &mut [u8; AREA_SIZE],
     answers: &mut [u8; AREA_SIZE],
     expected: &mut [u8; AREA_SIZE],
-) -> Played {
+) -> io::Result<Played> {
     let length = wide(byte_at(d, from));
     let name = part_from(d, behind(d, from), length);
     let p = play(d, name.to, session, answers, expected);
-    text(bytes_of(d, name));
-    text(b": ");
-    show_count(p.calls, p.events);
-    text(b"\n");
+    text(rt, bytes_of(d, name))?;
+    text(rt, b": ")?;
+    show_count(rt, p.calls, p.events)?;
+    text(rt, b"\n")?;
     let differs = p.differs;
-    show_difference(differs, answers, expected);
-    p
+    show_difference(rt, differs, answers, expected)?;
+    Ok(p)
 }
 
 // How much was played, and whether tao answered all of it so.
@@ -446,10 +455,10 @@ struct All {
     same: bool,
 }
 
-fn play_all(d: &[u8]) -> All {
-    let mut session = io::large_buffer();
-    let mut answers = io::large_buffer();
-    let mut expected = io::large_buffer();
+fn play_all(rt: &impl Print, d: &[u8]) -> io::Result<All> {
+    let mut session = [0u8; AREA_SIZE];
+    let mut answers = [0u8; AREA_SIZE];
+    let mut expected = [0u8; AREA_SIZE];
     let mut at = behind_list(d, tables_at(d));
     let mut scripts: u64 = 0;
     let mut calls: u64 = 0;
@@ -457,14 +466,21 @@ fn play_all(d: &[u8]) -> All {
     let mut turn: usize = 0;
     while turn < d.len() {
         if byte_at(d, at) != 1 {
-            return All {
+            return Ok(All {
                 scripts,
                 calls,
                 events,
                 same: true,
-            };
+            });
         }
-        let p = play_named(d, behind(d, at), &mut session, &mut answers, &mut expected);
+        let p = play_named(
+            rt,
+            d,
+            behind(d, at),
+            &mut session,
+            &mut answers,
+            &mut expected,
+        )?;
         at = p.at;
         scripts = std::num::wrapping_add_u64(scripts, 1);
         calls = std::num::wrapping_add_u64(calls, p.calls);
@@ -472,43 +488,41 @@ fn play_all(d: &[u8]) -> All {
         let differs = p.differs;
         match differs {
             Differs::Nowhere => {}
-            _ => return All {
+            _ => return Ok(All {
                 scripts,
                 calls,
                 events,
                 same: false,
-            },
+            }),
         }
         turn += 1;
     }
-    All {
+    Ok(All {
         scripts,
         calls,
         events,
         same: true,
-    }
+    })
 }
 
-fn replay(d: &[u8]) {
-    let all = play_all(d);
-    decimal(all.scripts);
-    text(b" scripts, ");
-    show_count(all.calls, all.events);
+fn replay(rt: &impl Print, d: &[u8]) -> io::Result<()> {
+    let all = play_all(rt, d)?;
+    decimal(rt, all.scripts)?;
+    text(rt, b" scripts, ")?;
+    show_count(rt, all.calls, all.events)?;
     if all.same {
-        text(b": all as tao answered\n");
+        text(rt, b": all as tao answered\n")
     } else {
-        text(b": the last call not as tao answered\n");
+        text(rt, b": the last call not as tao answered\n")
     }
 }
 
-fn main() {
-    let fd = os::open_read(b"calls");
-    if fd < 0 {
-        os::fail(b"calls");
-        return;
-    }
-    let mut space = [0u8; 524288];
-    let n = io::read_full(fd, &mut space);
-    libc::close(fd);
-    replay(&space[..n]);
+fn main(rt: HostRuntime) -> io::Result<()> {
+    let file = match fs::open(&rt, "calls") {
+        Ok(file) => file,
+        Err(e) => return eprintln!(rt; "calls: {e}"),
+    };
+    let mut space = Vec::new(rt.alloc());
+    file.take(524288).read_to_end(&mut space)?;
+    replay(&rt, space.as_slice())
 }

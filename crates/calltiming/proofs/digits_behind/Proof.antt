@@ -3,47 +3,47 @@ use Rattle.std.proofs.Common.{◌-◌, ◌≤◌, rules}
 use Rattle.calltiming.proofs.digits_behind.Statement.{statement}
 use Rattle.calltiming.proofs.digits_behind.Tie as tie
 
-abbrev invariant-loop : tie.invariant-loop
+abbrev invariant-loop : tie.invariant-loop-i
 invariant-loop session₀ answers₀ state block table rounds before count₀ i₀ session answers count i = i ≤ rounds
 
-abbrev decreases-loop : tie.decreases-loop
+abbrev decreases-loop : tie.decreases-loop-i
 decreases-loop session₀ answers₀ state block table rounds before count₀ i₀ session answers count i = rounds - i
 
-fill-queue-requires : tie.Need-fill-queue-requires invariant-loop decreases-loop
+fill-queue-requires : tie.Need-fill_queue-requires invariant-loop decreases-loop
 fill-queue-requires c κs = search rules
 
-slice-aggregate-copy-part : tie.Need-slice-aggregate-copy-part invariant-loop decreases-loop
+slice-aggregate-copy-part : tie.Need-slice_bounds-copy_part-end-2 invariant-loop decreases-loop
 slice-aggregate-copy-part c = search rules
 
-copy-part-requires : tie.Need-copy-part-requires invariant-loop decreases-loop
+copy-part-requires : tie.Need-copy_part-requires invariant-loop decreases-loop
 copy-part-requires c κs = search rules
 
-loop-holds : tie.Need-loop-init invariant-loop decreases-loop
+loop-holds : tie.Need-loop-i-init invariant-loop decreases-loop
 loop-holds c = search rules
 
-put-back-requires : tie.Need-put-back-requires invariant-loop decreases-loop
+put-back-requires : tie.Need-put_back-requires invariant-loop decreases-loop
 put-back-requires c κs = search rules
 
-digit-requires : tie.Need-digit-requires invariant-loop decreases-loop
+digit-requires : tie.Need-digit-one-requires invariant-loop decreases-loop
 digit-requires c κs = search rules
 
-wrapping-add-u64-requires : tie.Need-wrapping-add-u64-requires invariant-loop decreases-loop
+wrapping-add-u64-requires : tie.Need-wrapping_add_u64-count-requires invariant-loop decreases-loop
 wrapping-add-u64-requires c κs = search rules
 
-add-i : tie.Need-overflow-add-i invariant-loop decreases-loop
+add-i : tie.Need-overflow_add-i invariant-loop decreases-loop
 add-i c = search rules
 
-loop-less : tie.Need-loop-smaller invariant-loop decreases-loop
+loop-less : tie.Need-loop-i-smaller invariant-loop decreases-loop
 loop-less c = search rules
 
-loop-again : tie.Need-loop-preserved invariant-loop decreases-loop
+loop-again : tie.Need-loop-i-preserved invariant-loop decreases-loop
 loop-again c = search rules
 
 returns : tie.Need-returns invariant-loop decreases-loop
 returns c = search rules
 
-pub digits-behind-spec : {M : Type 1} → statement M
-digits-behind-spec =
+pub digits_behind_spec : {M : Type 1} → statement M
+digits_behind_spec =
     tie.close
     (tie.spec
     invariant-loop

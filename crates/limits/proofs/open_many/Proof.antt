@@ -6,38 +6,38 @@ use Rattle.limits.proofs.one_if.Reads as one-if-reads
 use Rattle.limits.proofs.open.Reads as open-reads
 use Rattle.std.proofs.num.wrapping_add_u64.Reads as wrapping-add-u64-reads
 
-abbrev invariant-loop : tie.invariant-loop
+abbrev invariant-loop : tie.invariant-loop-i
 invariant-loop session₀ answers₀ state block table m n result₀ count₀ i₀ session answers result count i = i ≤ n
 
-abbrev decreases-loop : tie.decreases-loop
+abbrev decreases-loop : tie.decreases-loop-i
 decreases-loop session₀ answers₀ state block table m n result₀ count₀ i₀ session answers result count i = n - i
 
-loop-holds : tie.Need-loop-init invariant-loop decreases-loop
+loop-holds : tie.Need-loop-i-init invariant-loop decreases-loop
 loop-holds c = search rules
 
-open-requires : tie.Need-open-requires invariant-loop decreases-loop
+open-requires : tie.Need-open-o-requires invariant-loop decreases-loop
 open-requires c κs = search rules
 
-one-if-requires : tie.Need-one-if-requires invariant-loop decreases-loop
+one-if-requires : tie.Need-one_if-requires invariant-loop decreases-loop
 one-if-requires c κs = search rules
 
-wrapping-add-u64-requires : tie.Need-wrapping-add-u64-requires invariant-loop decreases-loop
+wrapping-add-u64-requires : tie.Need-wrapping_add_u64-count-requires invariant-loop decreases-loop
 wrapping-add-u64-requires c κs = search rules
 
-add-i : tie.Need-overflow-add-i invariant-loop decreases-loop
+add-i : tie.Need-overflow_add-i invariant-loop decreases-loop
 add-i c = search rules
 
-loop-less : tie.Need-loop-smaller invariant-loop decreases-loop
+loop-less : tie.Need-loop-i-smaller invariant-loop decreases-loop
 loop-less c = search rules
 
-loop-again : tie.Need-loop-preserved invariant-loop decreases-loop
+loop-again : tie.Need-loop-i-preserved invariant-loop decreases-loop
 loop-again c = search rules
 
 returns : tie.Need-returns invariant-loop decreases-loop
 returns c = search rules
 
-pub open-many-spec : {M : Type 1} → statement M
-open-many-spec =
+pub open_many_spec : {M : Type 1} → statement M
+open_many_spec =
     tie.close
     (tie.spec
     invariant-loop
