@@ -192,16 +192,17 @@ def scan_proof():
     keys = ''.join('    (' + ' ∷ '.join(codes) + ' ∷ []) ∷\n' for codes, _ in reversed(ARMS))
 
     def answer(i, row):
-        way, key = f'c.in-{int(row[0][0], 16)}.is', row[1]
-        if len(row[0]) == 1:
-            return f'    (λ c. listed kc.{key} {way} refl)'
-        return f'    (λ c. ⊎_elim (λ h. listed kc.{key} h refl) (λ h. listed kc.{key} h refl) {way})'
+        codes, key = row[0], row[1]
+        if len(codes) == 1:
+            return f'    (λ c. listed kc.{key} c.in-{int(codes[0], 16)}.is refl)'
+        return f'    (λ c. shared kc.{key} {" ".join(codes)} (search rules) refl refl)'
     return f'''-- `lookup::keycode::keycode_from_scancode` meets its contract: each arm's code is looked up by computing, and the arm `_` by `missed`.
 -- Assumes nothing.
 use mathlib.Core.Path.{{◌≡◌, refl, sym, ap, ◌∙◌}}
 use mathlib.Core.List.{{List, [], ◌∷◌}}
-use mathlib.Core.Logic.{{⊎_elim}}
+use mathlib.Core.Logic.{{◌⊎◌, ⊎_elim}}
 use Prim.Native.Nat.{{ℕ}}
+use borrow.Author.Rules.{{rules}}
 use Rattle.area.specs.Look.{{assoc}}
 use Rattle.area.proofs.Switch.{{Rest, missed}}
 use Rattle.keys.specs.declared.NativeKeyCode.TheVariants as nat
@@ -216,10 +217,14 @@ abbrev arms : List (List ℕ)
 arms =
 {keys}    []
 
--- the two laws leave key_code_of shut in the proof, so that a wrong arm is refused without computing it
+-- the laws leave key_code_of shut in the proof, so that a wrong arm is refused without computing it
 listed : (r : KeyCode) {{x k : ℕ}} → x ≡ k → assoc scan_codes (kc.Unidentified (nat.Windows k)) k ≡ r → r ≡ key_code_of x
 unfolding key_code_of
 listed r h e = sym e ∙ sym (ap key_code_of h)
+
+-- of an arm of two codes; which it has is searched for, since such an arm goes by its first code's name
+shared : (r : KeyCode) (k l : ℕ) {{x : ℕ}} → (x ≡ k) ⊎ (x ≡ l) → assoc scan_codes (kc.Unidentified (nat.Windows k)) k ≡ r → assoc scan_codes (kc.Unidentified (nat.Windows l)) l ≡ r → r ≡ key_code_of x
+shared r k l h e f = ⊎_elim (λ j. listed r j e) (λ j. listed r j f) h
 
 unlisted : (n : ℕ) → Rest arms n → kc.Unidentified (nat.Windows n) ≡ key_code_of n
 unfolding key_code_of scan_codes

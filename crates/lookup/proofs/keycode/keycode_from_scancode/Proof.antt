@@ -2,8 +2,9 @@
 -- Assumes nothing.
 use mathlib.Core.Path.{◌≡◌, refl, sym, ap, ◌∙◌}
 use mathlib.Core.List.{List, [], ◌∷◌}
-use mathlib.Core.Logic.{⊎_elim}
+use mathlib.Core.Logic.{◌⊎◌, ⊎_elim}
 use Prim.Native.Nat.{ℕ}
+use borrow.Author.Rules.{rules}
 use Rattle.area.specs.Look.{assoc}
 use Rattle.area.proofs.Switch.{Rest, missed}
 use Rattle.keys.specs.declared.NativeKeyCode.TheVariants as nat
@@ -163,10 +164,14 @@ arms =
     (0x0029 ∷ []) ∷
     []
 
--- the two laws leave key_code_of shut in the proof, so that a wrong arm is refused without computing it
+-- the laws leave key_code_of shut in the proof, so that a wrong arm is refused without computing it
 listed : (r : KeyCode) {x k : ℕ} → x ≡ k → assoc scan_codes (kc.Unidentified (nat.Windows k)) k ≡ r → r ≡ key_code_of x
 unfolding key_code_of
 listed r h e = sym e ∙ sym (ap key_code_of h)
+
+-- of an arm of two codes; which it has is searched for, since such an arm goes by its first code's name
+shared : (r : KeyCode) (k l : ℕ) {x : ℕ} → (x ≡ k) ⊎ (x ≡ l) → assoc scan_codes (kc.Unidentified (nat.Windows k)) k ≡ r → assoc scan_codes (kc.Unidentified (nat.Windows l)) l ≡ r → r ≡ key_code_of x
+shared r k l h e f = ⊎_elim (λ j. listed r j e) (λ j. listed r j f) h
 
 unlisted : (n : ℕ) → Rest arms n → kc.Unidentified (nat.Windows n) ≡ key_code_of n
 unfolding key_code_of scan_codes
@@ -242,8 +247,8 @@ keycode_from_scancode_spec =
     (λ c. listed kc.Space c.in-57.is refl)
     (λ c. listed kc.Tab c.in-15.is refl)
     (λ c. listed kc.Convert c.in-121.is refl)
-    (λ c. ⊎_elim (λ h. listed kc.Lang1 h refl) (λ h. listed kc.Lang1 h refl) c.in-114.is)
-    (λ c. ⊎_elim (λ h. listed kc.Lang2 h refl) (λ h. listed kc.Lang2 h refl) c.in-113.is)
+    (λ c. shared kc.Lang1 0x0072 0xE0F2 (search rules) refl refl)
+    (λ c. shared kc.Lang2 0x0071 0xE0F1 (search rules) refl refl)
     (λ c. listed kc.KanaMode c.in-112.is refl)
     (λ c. listed kc.NonConvert c.in-123.is refl)
     (λ c. listed kc.Delete c.in-57427.is refl)
@@ -300,9 +305,9 @@ keycode_from_scancode_spec =
     (λ c. listed kc.F22 c.in-109.is refl)
     (λ c. listed kc.F23 c.in-110.is refl)
     (λ c. listed kc.F24 c.in-118.is refl)
-    (λ c. ⊎_elim (λ h. listed kc.PrintScreen h refl) (λ h. listed kc.PrintScreen h refl) c.in-84.is)
+    (λ c. shared kc.PrintScreen 0x0054 0xE037 (search rules) refl refl)
     (λ c. listed kc.ScrollLock c.in-70.is refl)
-    (λ c. ⊎_elim (λ h. listed kc.Pause h refl) (λ h. listed kc.Pause h refl) c.in-69.is)
+    (λ c. shared kc.Pause 0x0045 0xE046 (search rules) refl refl)
     (λ c. listed kc.BrowserBack c.in-57450.is refl)
     (λ c. listed kc.BrowserFavorites c.in-57446.is refl)
     (λ c. listed kc.BrowserForward c.in-57449.is refl)
