@@ -1,5 +1,5 @@
 -- A host's view: what it reads of the answer areas by `mahjonglarch_event_count`, `_event` and `_event_text`, and that nothing is lost by it.
--- proofs/Told.antt and proofs/Host.antt have the proofs, `event-told : EventTold` and `host-demand3 : HostDemand3`.
+-- proofs/Told.antt and proofs/Host.antt have the proofs, `event-told : EventTold` and `host_demand3 : HostDemand3`.
 -- Assumes nothing.
 use Rattle.std.specs.Prelude.{ℕ, zero, suc, ◌≤◌, ◌≡◌, true, List, [], ◌∷◌, ◌++◌, map, eqb, length, take}
 use Rattle.std.proofs.Math.Option.{Option, some, none}

@@ -1,5 +1,5 @@
 -- The breaks in one pass forward: what the rules ask of the scalar values before is held in a state.
--- That it finds the breaks of the rules is `several-by` of proofs/Forward.antt.
+-- That it finds the breaks of the rules is `several_by` of proofs/Forward.antt.
 -- Assumes nothing.
 use Rattle.std.specs.Prelude.{Bool, false, not, ◌&&◌, ◌||◌, List, [], ◌∷◌, ℕ, eqb}
 use Rattle.text.specs.Unicode.{scalars_in}

@@ -1,6 +1,6 @@
 -- Wrong definitions of a finish that demand 3 excludes, each by a short run that is not `Closed`: a queue kept clean by completing no message,
 -- an event handed out late, twice, or before the one that arrived first. Whatever a finish is defined as, demand 3 makes that of a lone press
--- hand out its event, once (`finish-forced`), and that of a nested press hand out nothing before the outer one's (`inner-forced`).
+-- hand out its event, once (`finish_forced`), and that of a nested press hand out nothing before the outer one's (`inner_forced`).
 -- Assumes nothing.
 use mathlib.Core.Path.{◌≡◌, refl, ap, sym, ◌∙◌, subst}
 use mathlib.Core.Bool.{true, false}

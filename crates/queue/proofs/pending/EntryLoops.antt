@@ -61,34 +61,34 @@ module _ (t : ℕ) (x : List ℕ) (i : ℕ) (inv : Sought t x i) where
 
 -- ---- the latest open message: a loop that has come to entry i, b the answer if no entry from there on is open
 
-abbrev pub isTokenOr : Bool → ℕ → Option ℕ → Bool
-isTokenOr b t none = b
-isTokenOr b t (some u) = eqb t u
+abbrev pub is_token_or : Bool → ℕ → Option ℕ → Bool
+is_token_or b t none = b
+is_token_or b t (some u) = eqb t u
 
-isToken-or : (t : ℕ) (o : Option ℕ) → is_token t o ≡ isTokenOr false t o
-isToken-or t none = refl
-isToken-or t (some u) = refl
+is_token-or : (t : ℕ) (o : Option ℕ) → is_token t o ≡ is_token_or false t o
+is_token-or t none = refl
+is_token-or t (some u) = refl
 
-latest-or : (b : Bool) (t u : ℕ) (o : Option ℕ) → isTokenOr b t (latest o u) ≡ isTokenOr (eqb t u) t o
+latest-or : (b : Bool) (t u : ℕ) (o : Option ℕ) → is_token_or b t (latest o u) ≡ is_token_or (eqb t u) t o
 latest-or b t u none = refl
 latest-or b t u (some v) = refl
 
 last-read :
     (b : Bool) (t : ℕ) (l : List ℕ) (r : List Entry) →
-    isTokenOr b t (last_token (entry.get l ∷ r)) ≡ pick (eqb (get_or l 2 0) 0) (isTokenOr (eqb t (num 2 0 l)) t (last_token r)) (isTokenOr b t (last_token r))
+    is_token_or b t (last_token (entry.get l ∷ r)) ≡ pick (eqb (get_or l 2 0) 0) (is_token_or (eqb t (num 2 0 l)) t (last_token r)) (is_token_or b t (last_token r))
 unfolding last_token
-last-read b t l r = read_as (λ y. isTokenOr b t (last_token (y ∷ r))) l ∙ rw (latest-or b t (num 2 0 l) (last_token r))
+last-read b t l r = read_as (λ y. is_token_or b t (last_token (y ∷ r))) l ∙ rw (latest-or b t (num 2 0 l) (last_token r))
 
 abbrev pub Latest : ℕ → List ℕ → ℕ → Bool → Type 0
-Latest t x i b = is_token t (last_token (decode x).entries) ≡ isTokenOr b t (last_token (drop i (decode x).entries))
+Latest t x i b = is_token t (last_token (decode x).entries) ≡ is_token_or b t (last_token (drop i (decode x).entries))
 
 pub latest-start : (t : ℕ) (x : List ℕ) → Latest t x 0 false
-latest-start t x = isToken-or t (last_token (decode x).entries)
+latest-start t x = is_token-or t (last_token (decode x).entries)
 
 module _ (t : ℕ) (x : List ℕ) (i : ℕ) (b : Bool) (inv : Latest t x i b) where
   module _ (h : i < length (decode x).entries) where
     one :
-        is_token t (last_token (decode x).entries) ≡ pick (eqb (get_or x (ENTRIES_AT + ENTRY_SIZE * i + 2) 0) 0) (isTokenOr (eqb t (num 2 (ENTRIES_AT + ENTRY_SIZE * i) x)) t (last_token (drop (i + 1) (decode x).entries))) (isTokenOr b t (last_token (drop (i + 1) (decode x).entries)))
+        is_token t (last_token (decode x).entries) ≡ pick (eqb (get_or x (ENTRIES_AT + ENTRY_SIZE * i + 2) 0) 0) (is_token_or (eqb t (num 2 (ENTRIES_AT + ENTRY_SIZE * i) x)) t (last_token (drop (i + 1) (decode x).entries))) (is_token_or b t (last_token (drop (i + 1) (decode x).entries)))
     one =
         let l = drop (ENTRIES_AT + ENTRY_SIZE * i) x in
         inv ∙ rw (entry-at x i h, last-read b t l, get_or-drop (ENTRIES_AT + ENTRY_SIZE * i) x 2 0, num-drop 2 0 (ENTRIES_AT + ENTRY_SIZE * i) x, add-zero, add-one i)

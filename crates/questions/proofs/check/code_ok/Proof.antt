@@ -1,4 +1,4 @@
--- `crate::check::code_ok` meets its contract: its two halves are read where the format has them (`code-end`).
+-- `crate::check::code_ok` meets its contract: its two halves are read where the format has them (`code_end`).
 -- Assumes nothing.
 use Rattle.questions.proofs.check.Keys.{code_end}
 use borrow.Author.Rules.{rules}

@@ -1,4 +1,4 @@
--- `record::read::bare_key_at` meets its contract: its parts are read where the format has them (`bare-read`).
+-- `record::read::bare_key_at` meets its contract: its parts are read where the format has them (`bare_read`).
 -- Assumes nothing.
 use native.Mathlib.Omega.{arith}
 use Rattle.record.proofs.Fields.{bare_read}

@@ -1,4 +1,4 @@
--- `record::read::header_at` meets its contract: each field is read where the format has it (`decode-got`).
+-- `record::read::header_at` meets its contract: each field is read where the format has it (`decode_got`).
 -- Assumes nothing.
 use Rattle.record.proofs.read.Entries.{decode_got}
 use Rattle.record.proofs.read.Places.{is-held}

@@ -1,4 +1,4 @@
--- `record::read::pending_at` meets its contract: by the three marks, which each way out has tested (`pending-got`).
+-- `record::read::pending_at` meets its contract: by the three marks, which each way out has tested (`pending_got`).
 -- Assumes nothing.
 use mathlib.Core.List.{List}
 use Prim.Native.Nat.{ℕ}

@@ -1,4 +1,4 @@
--- `record::read::pressed_at` meets its contract: each field is read where the format has it (`pressed-got`).
+-- `record::read::pressed_at` meets its contract: each field is read where the format has it (`pressed_got`).
 -- Assumes nothing.
 use Rattle.record.proofs.Records.{pressed_got}
 use native.Mathlib.Omega.{arith}

@@ -1,4 +1,4 @@
--- `record::read::token_at` meets its contract: the token stands first (`token-got`).
+-- `record::read::token_at` meets its contract: the token stands first (`token_got`).
 -- Assumes nothing.
 use Rattle.record.proofs.read.Places.{token_got}
 use native.Mathlib.Omega.{arith}
