@@ -57,13 +57,13 @@ fn answers(e: &Example) -> (String, Vec<Answer>) {
   let all: Vec<Step> = before.iter().chain(&e.steps).cloned().collect();
   let mut all = tao(&all);
   let after = all.split_off(before.len());
-  let start = all.pop().map_or("freshSession".into(), |(_, seen)| {
+  let start = all.pop().map_or("fresh_session".into(), |(_, seen)| {
     let seen = seen.unwrap();
     // one message is open, nothing is held
     assert_eq!((seen.held, seen.entries.len()), (None, 1 + waiting));
     assert!(seen.entries.iter().enumerate().all(|(i, (token, done))| *token == i as u32 && *done == (i > 0)));
     let Body::Open { wparam, lparam, .. } = before[0].body else { panic!("a finish first") };
-    let press = format!("waiting 0 (press 0x{wparam:02X} (keyLParam 0x{lparam:02X}))");
+    let press = format!("waiting 0 (press 0x{wparam:02X} (key_lparam 0x{lparam:02X}))");
     let behind = match waiting {
       0 => "[]".into(),
       _ => {
@@ -96,7 +96,7 @@ fn row(e: &Example) -> String {
         let token = token.map_or("none".into(), |t| format!("(some {t})"));
         let result = match slot {
           &LENT => "lent",
-          Slot::Value(0) => "(Value zeroResult)",
+          Slot::Value(0) => "(Value zero_result)",
           Slot::DefaultProcedure => "DefWindowProc",
           other => panic!("{other:?}"),
         };
@@ -114,23 +114,21 @@ const HEAD: &str = "\
 -- tao's last empty queue. Calls that SCOPE 6 refuses were not given to tao: it panics there (5) or has no such limit or test (6 to 11).
 -- A finish with WM_QUIT peeked was given to it as one with nothing peeked (SCOPE 3.17).
 -- Assumes nothing.
-use Prim.Native.Nat.{ℕ}
-use mathlib.Core.Bool.{true, false}
-use mathlib.Core.List.{List, [], _∷_}
-use mathlib.Core.Option.{some, none}
-use Rattle·keys.specs.Text.{named, character, unidentified, dead, deadChar}
-use Rattle·keys.specs.declared.KeyLocation.the-variants as at
-use Rattle·keys.specs.declared.NativeKeyCode.the-variants as native
-use Rattle·keys.specs.declared.key_code.KeyCode.the-variants as code
-use Rattle·lookup.specs.LParam.{keyLParam}
-use Rattle·lookup.specs.Maps.{Maps}
-use Rattle·session.specs.Session.{press, waiting, freshSession}
-use Rattle·session.specs.Builder.{Keyboard}
-use Rattle·session.specs.Calls.{numbered}
-use Rattle·session.specs.Answers.{zeroResult}
-use Rattle·examples·specs.specs.Examples.{Example, bring, finish, refused, answered, lent, cells, times, message, keyEvent}
-use Rattle·session.specs.declared.ElementState.the-variants.{Pressed, Released}
-use Rattle·session.specs.declared.ProcResult.the-variants.{DefWindowProc, Value}
+use Rattle.std.specs.Prelude.{ℕ, true, false, List, [], ◌∷◌}
+use Rattle.std.proofs.Math.Option.{some, none}
+use Rattle.keys.specs.Text.{named, character, unidentified, dead, dead_char}
+use Rattle.keys.specs.declared.KeyLocation.TheVariants as at
+use Rattle.keys.specs.declared.NativeKeyCode.TheVariants as native
+use Rattle.keys.specs.declared.key_code.KeyCode.TheVariants as code
+use Rattle.lookup.specs.LParam.{key_lparam}
+use Rattle.lookup.specs.Maps.{Maps}
+use Rattle.session.specs.Session.{press, waiting, fresh_session}
+use Rattle.session.specs.Builder.{Keyboard}
+use Rattle.session.specs.Calls.{numbered}
+use Rattle.session.specs.Answers.{zero_result}
+use Rattle.examples.specs.Examples.{Example, bring, finish, refused, answered, lent, cells, times, message, key_event}
+use Rattle.session.specs.declared.ElementState.TheVariants.{Pressed, Released}
+use Rattle.session.specs.declared.ProcResult.TheVariants.{DefWindowProc, Value}
 ";
 
 /// crates/examples/specs/Expected.antt.
@@ -199,18 +197,18 @@ mod tests {
   fn typed_text_and_logical_key() {
     let unidentified = Key::Unidentified(Native::Windows(2));
     for (name, key, text, all) in [
-      ("surrogate-pair", character("😀"), Some("😀"), Some("😀")),
-      ("dead-key-and-text", Key::Dead(Some('´')), Some("'"), Some("'")),
-      ("control-at-press", character("1"), Some("x"), Some("x")),
-      ("control-at-character", character("1"), Some("1"), Some("\u{11}")),
-      ("bare-control", character("€"), None, None),
+      ("surrogate_pair", character("😀"), Some("😀"), Some("😀")),
+      ("dead_key_and_text", Key::Dead(Some('´')), Some("'"), Some("'")),
+      ("control_at_press", character("1"), Some("x"), Some("x")),
+      ("control_at_character", character("1"), Some("1"), Some("\u{11}")),
+      ("bare_control", character("€"), None, None),
       ("unpaired", unidentified.clone(), None, None),
-      ("unpaired-behind-letter", unidentified.clone(), None, None),
-      ("dead-character-behind-text", unidentified, None, Some("a")),
-      ("wide-surrogate", character("1"), Some("\0\0"), Some("\0\0")),
+      ("unpaired_behind_letter", unidentified.clone(), None, None),
+      ("dead_character_behind_text", unidentified, None, Some("a")),
+      ("wide_surrogate", character("1"), Some("\0\0"), Some("\0\0")),
       ("several-pieces", character("1"), Some("\r\n\u{301}"), Some("\r\n\u{301}")),
       ("conjunct", character("1"), Some("\u{915}\u{94D}\u{937}"), Some("\u{915}\u{94D}\u{937}")),
-      ("table-refused", character("1"), Some("1"), Some("1")),
+      ("table_refused", character("1"), Some("1"), Some("1")),
     ] {
       let all_events = events(name);
       assert_eq!(
@@ -225,14 +223,14 @@ mod tests {
   #[test]
   fn pieces() {
     for (name, one) in [
-      ("one-piece", &[true, true, true][..]),
-      ("no-ranges-of-class", &[false, false]),
-      ("joined-pictographs", &[true, true]),
-      ("two-joiners", &[false, false]),
+      ("one_piece", &[true, true, true][..]),
+      ("no_ranges_of_class", &[false, false]),
+      ("joined_pictographs", &[true, true]),
+      ("two_joiners", &[false, false]),
       ("flags", &[true, false, false]),
       ("syllables", &[true, true, false]),
-      ("around-a-letter", &[true, true, false]),
-      ("table-of-the-last-finish", &[false, true]),
+      ("around_a_letter", &[true, true, false]),
+      ("table_of_the_last_finish", &[false, true]),
     ] {
       let got: Vec<bool> = events(name)
         .iter()
@@ -249,7 +247,7 @@ mod tests {
   #[test]
   fn how_many_events() {
     for (name, count) in
-      [("alt-gr", 2), ("fake-press-forgets", 0), ("dropped-first", 2), ("entries", 257), ("tokens", 3)]
+      [("alt_gr", 2), ("fake_press_forgets", 0), ("dropped_first", 2), ("entries", 257), ("tokens", 3)]
     {
       assert_eq!(events(name).len(), count, "{name}");
     }

@@ -85,6 +85,7 @@ fn answers(script: &Script) -> Vec<Answer> {
 }
 
 /// The worked examples' scripts, from their first call on, but for the one with 4,096 tokens: crates/limits has it.
+/// In `calls` their names are written with dashes.
 fn examples(lent: &mut Seeded) -> Vec<Script> {
   let all = by_hand::examples(&Boards::new(), &Tables::new());
   let all = all.into_iter().filter(|e| e.name != "tokens");
@@ -94,7 +95,7 @@ fn examples(lent: &mut Seeded) -> Vec<Script> {
         by_hand::Start::Fresh => vec![],
         by_hand::Start::Behind { calls, .. } => calls,
       };
-      Script { name: e.name.into(), steps: steps(lent, before.into_iter().chain(e.steps)) }
+      Script { name: e.name.replace('_', "-"), steps: steps(lent, before.into_iter().chain(e.steps)) }
     })
     .collect()
 }

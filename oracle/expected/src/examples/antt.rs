@@ -55,7 +55,7 @@ fn key(k: &Key) -> String {
     Key::Character(t) => format!("character ({})", text(t)),
     Key::Unidentified(n) => format!("unidentified {}", native(*n)),
     Key::Dead(None) => "dead".into(),
-    Key::Dead(Some(c)) => format!("deadChar {}", hex(u32::from(*c).into())),
+    Key::Dead(Some(c)) => format!("dead_char {}", hex(u32::from(*c).into())),
   }
 }
 
@@ -95,19 +95,19 @@ pub fn layout(name: &str, l: &LayoutSpec) -> String {
   let plain = |v: u16| hex(v.into());
   let mut out = format!("abbrev pub {name} : Maps\n{name} =\n    record {{\n");
   let mut field = |name: &str, value: String| out += &format!("      {name} = {value};\n");
-  field("hasAltGraph", l.alt_gr.to_string());
-  field("nonCharKeys", cells(256, l.non_char.iter().map(|k| k.unwrap_or(0)), key_name));
-  field("scanCodes", cells(256, l.scan_of_vk.iter().copied(), plain));
-  field("virtualKeys", cells(768, l.vk_of_scan.iter().flatten().copied(), plain));
-  field("numLockOn", vkeys(&l.numlock_on));
-  field("numLockOff", vkeys(&l.numlock_off));
+  field("has_alt_graph", l.alt_gr.to_string());
+  field("non_char_keys", cells(256, l.non_char.iter().map(|k| k.unwrap_or(0)), key_name));
+  field("scan_codes", cells(256, l.scan_of_vk.iter().copied(), plain));
+  field("virtual_keys", cells(768, l.vk_of_scan.iter().flatten().copied(), plain));
+  field("num_lock_on", vkeys(&l.numlock_on));
+  field("num_lock_off", vkeys(&l.numlock_off));
   field("keys", list(l.keys.iter().map(|l| inner(codes(l)))));
   out + "    }\n"
 }
 
 pub fn board(b: &Board) -> String {
   let bytes = cells(256, b.state().iter().map(|b| u16::from(*b)), |v| hex(v.into()));
-  format!("abbrev pub {0} : Keyboard\n{0} = record {{ layout = {1}; keyState = {bytes} }}\n", b.name, b.layout_name)
+  format!("abbrev pub {0} : Keyboard\n{0} = record {{ layout = {1}; key_state = {bytes} }}\n", b.name, b.layout_name)
 }
 
 /// Its bytes, sixteen in a line.
@@ -142,7 +142,7 @@ pub fn event(e: &Event) -> String {
     ElementState::Released => "Released",
   };
   [
-    "keyEvent".into(),
+    "key_event".into(),
     inner(code(e.physical_key)),
     inner(key(&e.logical_key)),
     inner(opt_text(&e.text)),

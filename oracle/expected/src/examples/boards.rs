@@ -129,7 +129,7 @@ pub struct Boards {
 
 impl Boards {
   pub fn new() -> Self {
-    let layouts = [("us-layout", us()), ("german-layout", german()), ("odd-layout", odd()), ("moved-layout", moved())];
+    let layouts = [("us_layout", us()), ("german_layout", german()), ("odd_layout", odd()), ("moved_layout", moved())];
     let layouts = layouts.map(|(name, maps)| (name, Arc::new(maps)));
     let board = |name, at: usize, bytes| {
       let (layout_name, layout) = layouts[at].clone();
@@ -137,20 +137,20 @@ impl Boards {
     };
     Boards {
       us: board("us", 0, &[]),
-      us_control: board("us-control", 0, &[CONTROL]),
-      us_shift: board("us-shift", 0, &[(0x10, 0x80), (0x31, 0x80), (0xA0, 0x80)]),
+      us_control: board("us_control", 0, &[CONTROL]),
+      us_shift: board("us_shift", 0, &[(0x10, 0x80), (0x31, 0x80), (0xA0, 0x80)]),
       // Caps Lock is down and on; 1, E, Control and Shift are down, and 07, which has no scan code
       us_busy: board(
-        "us-busy",
+        "us_busy",
         0,
         &[(0x07, 0x80), (0x10, 0x80), (0x14, 0x81), (0x31, 0x80), (0x45, 0x80), (0xA0, 0x80), (0xA2, 0x80)],
       ),
-      us_num_lock: board("us-num-lock", 0, &[(0x60, 0x80), (0x90, 0x01)]),
-      us_cancel: board("us-cancel", 0, &[(0x03, 0x80), (0x11, 0x80), (0xA2, 0x80)]),
+      us_num_lock: board("us_num_lock", 0, &[(0x60, 0x80), (0x90, 0x01)]),
+      us_cancel: board("us_cancel", 0, &[(0x03, 0x80), (0x11, 0x80), (0xA2, 0x80)]),
       german: board("german", 1, &[]),
-      german_alt_gr: board("german-alt-gr", 1, &[(0xA2, 0x80), (0xA5, 0x80)]),
+      german_alt_gr: board("german_alt_gr", 1, &[(0xA2, 0x80), (0xA5, 0x80)]),
       // the accent's key and that of the other dead key are down
-      german_typing: board("german-typing", 1, &[(0xDD, 0x80), (0xDE, 0x80)]),
+      german_typing: board("german_typing", 1, &[(0xDD, 0x80), (0xDE, 0x80)]),
       odd: board("odd", 2, &[]),
       moved: board("moved", 3, &[]),
     }

@@ -159,12 +159,12 @@ pub fn examples(b: &Boards, t: &Tables) -> Vec<Example> {
       steps
     }),
     example(
-      "surrogate-pair",
+      "surrogate_pair",
       "a surrogate pair in two character messages is one text",
       held(us, vec![character(us, 0xD83D), more(us, 0), character(us, 0xDE00), alone(us, 0)]),
     ),
     example(
-      "dead-key-and-letter",
+      "dead_key_and_letter",
       "a dead key, then a letter that it joins",
       vec![
         press(german, 0xDD, 0x0D),
@@ -179,7 +179,7 @@ pub fn examples(b: &Boards, t: &Tables) -> Vec<Example> {
       ],
     ),
     example(
-      "alt-gr",
+      "alt_gr",
       "AltGr: the Control that Windows adds before it is fake, pressed and released",
       vec![
         press(german_alt_gr, 0x11, 0x1D),
@@ -193,13 +193,13 @@ pub fn examples(b: &Boards, t: &Tables) -> Vec<Example> {
       ],
     ),
     example(
-      "focus-inside",
+      "focus_inside",
       "focus lost and gained while a press peeks: all come out at its finish, the press first",
       vec![press(us, 0x31, 0x02), loss(us_busy), gain(us_busy), alone(us, 0)],
     ),
     // ---- WM_QUIT peeked; tao is shown nothing there (Body::for_tao)
     example(
-      "quit-behind-press",
+      "quit_behind_press",
       "a peeked WM_QUIT counts as nothing peeked: the press comes out, also the Control that an AltGr message would make fake; 10012 is another kind, so the press is held",
       vec![
         press(us, 0x31, 0x02),
@@ -212,7 +212,7 @@ pub fn examples(b: &Boards, t: &Tables) -> Vec<Example> {
       ],
     ),
     example(
-      "quit-behind-release",
+      "quit_behind_release",
       "a release with WM_QUIT peeked is written: its fake test sees nothing either; with 10012 it is fake",
       vec![
         release(german_alt_gr, 0x11, 0x1D),
@@ -222,7 +222,7 @@ pub fn examples(b: &Boards, t: &Tables) -> Vec<Example> {
       ],
     ),
     example(
-      "quit-behind-character",
+      "quit_behind_character",
       "a character with WM_QUIT peeked is the last one, inside a press that is still open too",
       vec![
         press(us, 0x31, 0x02),
@@ -244,27 +244,27 @@ pub fn examples(b: &Boards, t: &Tables) -> Vec<Example> {
       vec![press(us, 0x0D, 0x1C), more(us, 0), character(us, 0x0D), alone(us, 0)],
     ),
     example(
-      "dead-key-and-text",
+      "dead_key_and_text",
       "a dead key that text follows stays dead",
       vec![press(german, 0xDD, 0x0D), more(german, 0), character(german, 0x27), alone(german, 0)],
     ),
     example(
-      "control-at-press",
+      "control_at_press",
       "Control at the press's finish only: the layout's key stands, the text is the typed one",
       vec![press(us, 0x31, 0x02), more(us_control, 0), character(us, 0x78), alone(us, 0)],
     ),
     example(
-      "control-at-character",
+      "control_at_character",
       "Control at the last character's finish only: the text is the layout's",
       held(us, vec![character(us, 0x11), alone(us_control, 0)]),
     ),
     example(
-      "bare-control",
+      "bare_control",
       "'unless Control was on' at a press is the bare Control bit, whatever Alt and the AltGr flag say",
       vec![press(german, 0x45, 0x12), alone(german_alt_gr, 0)],
     ),
     example(
-      "alt-gr-text",
+      "alt_gr_text",
       "Control with Alt does not count at the last character on an AltGr layout: the typed text stands",
       vec![press(german_alt_gr, 0x45, 0x12), more(german_alt_gr, 0), character(german_alt_gr, 0xE9), alone(german_alt_gr, 0)],
     ),
@@ -274,48 +274,48 @@ pub fn examples(b: &Boards, t: &Tables) -> Vec<Example> {
       held(us, vec![character(us, 0xD83D), alone(us, 0)]),
     ),
     example(
-      "unpaired-behind-letter",
+      "unpaired_behind_letter",
       "a unit without its pair leaves no text at all, of the letter before it neither",
       held(us, vec![character(us, 0x61), more(us, 0), character(us, 0xD83D), alone(us, 0)]),
     ),
     example(
-      "dead-character-behind-text",
+      "dead_character_behind_text",
       "a dead character behind typed units: they are only the text with all modifiers",
       held(us, vec![character(us, 0x61), more(us, 0), dead_character(us, 0xB4)]),
     ),
     example(
-      "dead-without-character",
+      "dead_without_character",
       "a dead key that has no character: without modifiers unidentified, with no native code",
       vec![press(german, 0xDE, 0x28), alone(german, 0)],
     ),
     example(
-      "dead-at-focus",
+      "dead_at_focus",
       "a dead key without modifiers stays dead in a focus event",
       vec![gain(german_typing)],
     ),
     example(
-      "no-text",
+      "no_text",
       "a character key without text is unidentified with its scan code, found by the virtual key where it is 00",
       vec![press(us, 0x31, 0x02), alone(us, 0), press(us, 0x31, 0x00), alone(us, 0)],
     ),
     // ---- the layout
     example(
-      "listed-unidentified",
+      "listed_unidentified",
       "an unidentified key in a list ends the search and keeps its own native code",
       vec![press(odd, 0x31, 0x02), alone(odd, 0)],
     ),
     example(
-      "release-key",
+      "release_key",
       "a release has no texts; its logical key is the layout's",
       vec![release(us_shift, 0x31, 0x02), alone(us_shift, 0)],
     ),
     example(
-      "toggles-at-focus",
+      "toggles_at_focus",
       "a focus event knows the Caps Lock toggle and not Shift; Caps Lock is first, keys without scan code are passed over",
       vec![gain(us_shift), gain(us_busy), loss(us_busy)],
     ),
     example(
-      "pause-at-focus",
+      "pause_at_focus",
       "with Control on the code Pause is the key Pause in a press and a release, and not in a focus event",
       vec![
         gain(us_cancel),
@@ -331,12 +331,12 @@ pub fn examples(b: &Boards, t: &Tables) -> Vec<Example> {
       vec![release(us_num_lock, 0x60, 0x52), alone(us_num_lock, 0), gain(us_num_lock)],
     ),
     example(
-      "page-e1",
+      "page_e1",
       "page E1 counts as extended for the location",
       vec![release(odd, 0x0D, 0x00), alone(odd, 0)],
     ),
     example(
-      "menu-and-above",
+      "menu_and_above",
       "the Num Lock lists are asked even for VK_MENU; 112 is not VK_MENU, and nothing is asked for a virtual key above FF",
       vec![
         release(odd, 0x12, 0x38),
@@ -352,24 +352,24 @@ pub fn examples(b: &Boards, t: &Tables) -> Vec<Example> {
       ],
     ),
     example(
-      "unlisted-code",
+      "unlisted_code",
       "an unlisted code that a list has is found",
       vec![release(odd, 0x07, 0x7F), alone(odd, 0)],
     ),
     // ---- character codes
     example(
-      "wide-surrogate",
+      "wide_surrogate",
       "the surrogate test reads all of wParam, the scalar its low 32 bits: 10000D800 is two zero units",
       held(us, vec![character(us, 0x1_0000_D800), alone(us, 0)]),
     ),
     example(
-      "zero-units",
+      "zero_units",
       "a code that is no scalar is two zero units, and they are a text; 100000061 is a",
       held(us, vec![character(us, 0x11_0000), more(us, 0), character(us, 0x1_0000_0061), alone(us, 0)]),
     ),
     // ---- pieces: by the table of the finish that completes the last character
     example(
-      "one-piece",
+      "one_piece",
       "CR LF is one piece, and so is a letter with marks: the typed text is the logical key",
       texts(us, &[&[0x0D, 0x0A], &[0x65, 0x301], &[0x65, 0x301, 0x36F]]),
     ),
@@ -379,17 +379,17 @@ pub fn examples(b: &Boards, t: &Tables) -> Vec<Example> {
       typed(us, &[0x0D, 0x0A, 0x301]),
     ),
     example(
-      "no-ranges-of-class",
+      "no_ranges_of_class",
       "classes come from the table alone: with no ranges CR LF is two pieces, and so are a letter and a mark",
       texts(us, &[&[0x0D, 0x0A], &[0x65, 0x301]]).into_iter().map(|s| s.on(no_ranges)).collect(),
     ),
     example(
-      "joined-pictographs",
+      "joined_pictographs",
       "two pictographs with a ZWJ between them are one piece (GB11), with an Extend before the ZWJ too",
       texts(us, &[&[0x1_F468, 0x200D, 0x1_F469], &[0x1_F468, 0x1_F3FB, 0x200D, 0x1_F469]]),
     ),
     example(
-      "two-joiners",
+      "two_joiners",
       "with two ZWJ between them, or with a letter before the one, they are not: GB11's Extend* holds no ZWJ",
       texts(us, &[&[0x1_F468, 0x200D, 0x200D, 0x1_F469], &[0x61, 0x200D, 0x1_F469]]),
     ),
@@ -409,12 +409,12 @@ pub fn examples(b: &Boards, t: &Tables) -> Vec<Example> {
       typed(us, &[0x915, 0x94D, 0x937]),
     ),
     example(
-      "around-a-letter",
+      "around_a_letter",
       "a letter and a SpacingMark are one piece (GB9a), a Prepend and a letter too (GB9b), but not with LF (GB5)",
       texts(us, &[&[0x915, 0x903], &[0x600, 0x31], &[0x600, 0x0A]]),
     ),
     example(
-      "table-of-the-last-finish",
+      "table_of_the_last_finish",
       "the table that counts is that of the finish that completes the last character, not those before it",
       {
         let mut steps = typed(us, &[0x0D, 0x0A]);
@@ -429,7 +429,7 @@ pub fn examples(b: &Boards, t: &Tables) -> Vec<Example> {
     ),
     // ---- what is read when
     example(
-      "wide-kind",
+      "wide_kind",
       "kinds have 32 bits: 10100 is no key message, so the press is held, and 10102 is no character",
       vec![
         press(us, 0x31, 0x02),
@@ -440,7 +440,7 @@ pub fn examples(b: &Boards, t: &Tables) -> Vec<Example> {
       ],
     ),
     example(
-      "close-window",
+      "close_window",
       "104 with F4 is ignored by its whole wParam, any other press is not; a repeat is told by bits 30 and 31",
       vec![
         bring(us, 0x104, 0x73, lparam(0x3E)),
@@ -451,17 +451,17 @@ pub fn examples(b: &Boards, t: &Tables) -> Vec<Example> {
       ],
     ),
     example(
-      "press-by-finish",
+      "press_by_finish",
       "a press's scan code and location go by the layout of its finish",
       vec![press(odd, 0xB3, 0x00), alone(moved, 0)],
     ),
     example(
-      "release-by-open",
+      "release_by_open",
       "a release is wholly kept from its open, its keys' texts too",
       vec![release(us, 0x31, 0x00), alone(moved, 0)],
     ),
     example(
-      "release-fake-by-finish",
+      "release_fake_by_finish",
       "of a release's fake test only the AltGr flag is the finish's",
       vec![
         release(us, 0x11, 0x1D),
@@ -471,7 +471,7 @@ pub fn examples(b: &Boards, t: &Tables) -> Vec<Example> {
       ],
     ),
     example(
-      "release-fake-any-kind",
+      "release_fake_any_kind",
       "a release is fake whatever kind is peeked, a press only with a key message",
       vec![
         release(german, 0x11, 0x1D),
@@ -482,12 +482,12 @@ pub fn examples(b: &Boards, t: &Tables) -> Vec<Example> {
       ],
     ),
     example(
-      "fake-by-lparam",
+      "fake_by_lparam",
       "the fake test reads the peeked lParam alone: scan code 00 of the virtual key A5, whose code is E038, is not looked up",
       vec![release(german, 0x11, 0x1D), seeing(german, 0, 0x101, 0xA5, 0xC100_0001)],
     ),
     example(
-      "fake-control-alone",
+      "fake_control_alone",
       "a key that is not Control is never fake",
       vec![
         press(german, 0x0D, 0x1C),
@@ -498,17 +498,17 @@ pub fn examples(b: &Boards, t: &Tables) -> Vec<Example> {
     ),
     // ---- nesting
     example(
-      "nested-press-completed",
+      "nested_press_completed",
       "a character's finish completes what is held then: a nested press, with none of the units typed before it",
       held(us, vec![character(us, 0x61), press(us, 0x45, 0x12), more(us, 1), alone(us, 0)]),
     ),
     example(
-      "nested-dead-character",
+      "nested_dead_character",
       "a nested 103 took the held press: the character's finish gives nothing, and what waits is handed out",
       held(us, vec![character(us, 0x61), dead_character(us, 0xB4), alone(us, 0)]),
     ),
     example(
-      "outer-press-forgets",
+      "outer_press_forgets",
       "the finish of an outer press forgets the press that a nested call put on hold, its units too",
       vec![
         press(us, 0x31, 0x02),
@@ -521,12 +521,12 @@ pub fn examples(b: &Boards, t: &Tables) -> Vec<Example> {
       ],
     ),
     example(
-      "fake-press-forgets",
+      "fake_press_forgets",
       "a fake press forgets the held press",
       held(german, vec![press(german, 0x11, 0x1D), before_alt_gr(german, 0, 0x104), character(german, 0x31)]),
     ),
     example(
-      "dropped-first",
+      "dropped_first",
       "dropping the first entry hands out what waits behind it",
       vec![
         press(german, 0x11, 0x1D),
@@ -538,7 +538,7 @@ pub fn examples(b: &Boards, t: &Tables) -> Vec<Example> {
       ],
     ),
     example(
-      "nested-order",
+      "nested_order",
       "a nested event comes out behind the outer one, in the order of arrival",
       vec![
         release(us, 0x0D, 0x1C),
@@ -550,23 +550,23 @@ pub fn examples(b: &Boards, t: &Tables) -> Vec<Example> {
       ],
     ),
     example(
-      "held-through-focus",
+      "held_through_focus",
       "focus messages and releases leave the held press",
       held(us, vec![gain(us), release(us, 0x45, 0x12), alone(us, 0), loss(us), character(us, 0x31), alone(us, 0)]),
     ),
     example(
-      "no-token-kept",
+      "no_token_kept",
       "103 and 107 on an empty queue leave no token handed out",
       held(us, vec![bring(us, 0x107, 0xB4, lparam(0x0D)), release(us, 0x45, 0x12), alone(us, 0)]),
     ),
     // ---- refusals, which are those of docs/SCOPE.md, 6: tao panics at 5 and has no limits
     example(
-      "nothing-held",
+      "nothing_held",
       "a 103 with no press held is refused 5, a 102 is ignored",
       vec![refused(5, dead_character(us, 0xB4)), refused(5, bring(us, 0x107, 0, 0)), character(us, 0x31)],
     ),
     example(
-      "table-refused",
+      "table_refused",
       "a table that is none is refused 11, whatever the call is: an open, a finish, an ignored message, a focus change",
       vec![
         refused(11, press(us, 0x31, 0x02).on(no_bytes)),
@@ -582,7 +582,7 @@ pub fn examples(b: &Boards, t: &Tables) -> Vec<Example> {
         alone(us, 0),
       ],
     ),
-    example("eight-open", "with eight open a focus message, a 103 and ignored ones pass, and a ninth open is refused 6", {
+    example("eight_open", "with eight open a focus message, a 103 and ignored ones pass, and a ninth open is refused 6", {
       let mut steps = held(us, (0..8).map(|_| release(us, 0x31, 0x02)).collect());
       steps.extend([
         refused(6, character(us, 0x31)),
@@ -596,7 +596,7 @@ pub fn examples(b: &Boards, t: &Tables) -> Vec<Example> {
       steps.extend((0..8).rev().map(|token| alone(us, token)));
       steps
     }),
-    example("sixteen-units", "sixteen units pass, with the seventeenth the call is refused 9; so are fifteen and two", {
+    example("sixteen_units", "sixteen units pass, with the seventeenth the call is refused 9; so are fifteen and two", {
       let mut steps = held(us, vec![]);
       for n in 0..16 {
         steps.extend([character(us, 0x61), more(us, 0)]);
@@ -612,7 +612,7 @@ pub fn examples(b: &Boards, t: &Tables) -> Vec<Example> {
       steps
     }),
     example(
-      "latest-token",
+      "latest_token",
       "only the latest open message can be finished; a refused call changes nothing",
       vec![
         refused(10, alone(us, 0)),

@@ -68,10 +68,10 @@ impl Tables {
   pub fn new() -> Self {
     let touching = write(&[(0x0A, 0x0D, 2), (0x0D, 0x0D, 1)]);
     Tables {
-      no_ranges: Table::new("no-ranges", "no ranges: every scalar value has class Other", write(&[])),
-      no_bytes: Table::new("no-bytes", "no bytes at all, so no table", vec![]),
+      no_ranges: Table::new("no_ranges", "no ranges: every scalar value has class Other", write(&[])),
+      no_bytes: Table::new("no_bytes", "no bytes at all, so no table", vec![]),
       touching: Table::new("touching", "no table: both ranges have 0D", touching),
-      class_14: Table::new("class-14", "no table: there is no such class", write(&[(0x0D, 0x0D, 14)])),
+      class_14: Table::new("class_14", "no table: there is no such class", write(&[(0x0D, 0x0D, 14)])),
     }
   }
 
