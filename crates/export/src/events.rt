@@ -2,8 +2,8 @@
 ghost use Rattle.std.specs.Prelude.{true, List, ◌≡◌, ◌≤◌, ◌<◌, ℕ, length};
 ghost use Rattle.area.specs.Pick.{pick};
 ghost use Rattle.session.specs.Area.{event};
-ghost use Rattle.session.specs.Limits.{ANSWER_EVENT_SIZE};
-ghost use Rattle.export.specs.Events.{FIELDS, fields_of, is_answer, is_event, event_at, fields_left, text_place, text_at, text_left};
+ghost use Rattle.session.specs.Limits.{ANSWER_EVENT_SIZE as answer_event_size};
+ghost use Rattle.export.specs.Events.{FIELDS as field_count, fields_of, is_answer, is_event, event_at, fields_left, text_place, text_at, text_left};
 
 use crate::numbers::NONE;
 use session::{ANSWER_EVENT_SIZE, ANSWER_EVENTS_AT, AREA_SIZE, ENTRIES_MOST, TEXT_MOST};
@@ -22,7 +22,7 @@ fn wide(b: u8) -> u32
 
 // An event as 17 numbers: physical key, logical key, location, state, repeat, synthetic, key without modifiers, the lengths of the texts.
 fn numbers_at(s: &[u8]) -> [u32; FIELDS]
-    requires { (ANSWER_EVENT_SIZE ≤ length s.now) × (event.ok s.now ≡ true) }
+    requires { (answer_event_size ≤ length s.now) × (event.ok s.now ≡ true) }
     ensures { result ≡ fields_of (event.get s.now) }
 {
     [
@@ -48,7 +48,7 @@ fn numbers_at(s: &[u8]) -> [u32; FIELDS]
 
 // Puts the numbers in their places.
 fn put_numbers(fields: &mut [u32], numbers: [u32; FIELDS])
-    requires { length fields.old ≡ FIELDS }
+    requires { length fields.old ≡ field_count }
     ensures { fields.new ≡ numbers }
 {
     let mut k: usize = 0;

@@ -14,7 +14,7 @@ ghost use Rattle.session.specs.declared.ProcResult.{ProcResult};
 ghost use Rattle.message.specs.Calls.{inputs, message};
 ghost use Rattle.event.specs.Peeked.{as_peeked};
 ghost use Rattle.export.specs.Events.{event_at, fields_left, text_at, text_left};
-ghost use Rattle.export.specs.Interface.{INTERFACE, OpenSays, FinishSays, peeked_as, count_of};
+ghost use Rattle.export.specs.Interface.{INTERFACE as interface_number, OpenSays, FinishSays, peeked_as, count_of};
 
 use crate::numbers::NONE;
 use event::peeked::Peeked;
@@ -27,7 +27,7 @@ const INTERFACE: u32 = 2;
 
 // The number of this interface, for a host to compare with its header's before the first call.
 pub fn mahjonglarch_interface() -> u32
-    ensures { result ≡ INTERFACE }
+    ensures { result ≡ interface_number }
 {
     INTERFACE
 }

@@ -1,7 +1,7 @@
 // The layout block: its sizes, and question 3, whether bytes are one.
 ghost use Rattle.std.specs.Prelude.{◌≡◌, ◌+◌, ◌≤◌, ◌<◌, length, drop};
 ghost use Rattle.area.specs.Pick.{pick};
-ghost use Rattle.lookup.specs.Sizes.{BLOCK_MOST, HEAD, ENTRY_HEAD};
+ghost use Rattle.lookup.specs.Sizes.{BLOCK_MOST as block_most, HEAD as head_size, ENTRY_HEAD as entry_head};
 ghost use Rattle.lookup.specs.Block.{len_of, list_key_ok, entry_ok, list_ok, used_of, table_ok, lists_ok, block_ok};
 ghost use Rattle.lookup.specs.Maps.{len_ok, non_char_ok};
 
@@ -56,7 +56,7 @@ fn list_key_ok(by_vkey: bool, key: u64) -> bool
 
 // The bytes of the entry at the head of l, 0 where there is none.
 fn entry_len(l: &[u8], by_vkey: bool, lo: u64) -> usize
-    ensures { result ≡ pick (entry_ok (list_key_ok by_vkey) lo l.now) (ENTRY_HEAD + len_of l.now) 0 }
+    ensures { result ≡ pick (entry_ok (list_key_ok by_vkey) lo l.now) (entry_head + len_of l.now) 0 }
 {
     if l.len() < ENTRY_HEAD {
         return 0;
@@ -91,7 +91,7 @@ fn entry_len(l: &[u8], by_vkey: bool, lo: u64) -> usize
 
 // Where n entries from start on end, 0 where they are none.
 fn list_end(block: &[u8], by_vkey: bool, n: u16, start: usize) -> usize
-    requires { (start ≤ length block.now) × (length block.now ≤ BLOCK_MOST) }
+    requires { (start ≤ length block.now) × (length block.now ≤ block_most) }
     ensures { result ≡ pick (list_ok (list_key_ok by_vkey) n 0 (drop start block.now)) (start + used_of n (drop start block.now)) 0 }
 {
     let mut left = n;
@@ -119,7 +119,7 @@ fn non_char_ok(n: u16) -> bool
 }
 
 fn table_ok(block: &[u8]) -> bool
-    requires { HEAD ≤ length block.now }
+    requires { head_size ≤ length block.now }
     ensures { result ≡ table_ok block.now }
 {
     let mut i: usize = 0;
@@ -133,7 +133,7 @@ fn table_ok(block: &[u8]) -> bool
 }
 
 fn lists_ok(block: &[u8]) -> bool
-    requires { (HEAD ≤ length block.now) × (length block.now ≤ BLOCK_MOST) }
+    requires { (head_size ≤ length block.now) × (length block.now ≤ block_most) }
     ensures { result ≡ lists_ok block.now }
 {
     let mut j: usize = 0;

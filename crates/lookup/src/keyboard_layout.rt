@@ -1,7 +1,7 @@
 // tao's keyboard_layout.rs over the lent layout block: the modifiers of a key state, the layout's tables, get_key and a key's text.
 ghost use Rattle.std.specs.Prelude.{true, ◌≡◌, ◌≤◌, ◌<◌, ◌+◌, length, drop};
 ghost use Rattle.area.specs.Pick.{pick};
-ghost use Rattle.lookup.specs.Sizes.{BLOCK_MOST, LISTS, CELLS, HEAD, ENTRY_HEAD};
+ghost use Rattle.lookup.specs.Sizes.{BLOCK_MOST, LISTS, CELLS, HEAD as head_size, ENTRY_HEAD as entry_head};
 ghost use Rattle.lookup.specs.Block.{cell_at, block_ok, maps_of, list_key_ok, list_ok, start_of, place_of, place_in_list};
 ghost use Rattle.lookup.specs.Layout.{non_char_key, scan_code_for, vkey_for, get_key, part_of, key_in, found_at, place_for};
 ghost use Rattle.lookup.specs.Modifiers.{down, toggled, any_down, active_modifiers, num_lock_on, caps_lock_on, remove_only_ctrl, bits_of};
@@ -123,7 +123,7 @@ pub struct LayoutKey {
 // ---- its tables
 
 fn cell(block: &[u8], i: usize) -> u16
-    requires { (HEAD ≤ length block.now) × (i < CELLS) }
+    requires { (head_size ≤ length block.now) × (i < CELLS) }
     ensures { result ≡ cell_at block.now i }
 {
     area::get_u16(block, CELLS_AT + 2 * i)
@@ -185,7 +185,7 @@ fn non_char_key(block: &[u8], vkey: u16) -> u16
 
 // Where list j starts.
 fn start_of(block: &[u8], j: usize) -> usize
-    requires { (HEAD ≤ length block.now) × (j ≤ LISTS) }
+    requires { (head_size ≤ length block.now) × (j ≤ LISTS) }
     ensures { result ≡ start_of block.now j }
 {
     let mut i: usize = 0;
@@ -228,7 +228,7 @@ fn place_in(block: &[u8], j: usize, key: u64) -> usize
 
 // The key of the entry at a place.
 fn found_at(block: &[u8], at: usize) -> LayoutKey
-    requires { (at + ENTRY_HEAD ≤ length block.now) × (length block.now ≤ BLOCK_MOST) }
+    requires { (at + entry_head ≤ length block.now) × (length block.now ≤ BLOCK_MOST) }
     ensures { result ≡ found_at block.now at }
 {
     let number = area::get_u16(block, at + 8);

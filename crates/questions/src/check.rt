@@ -2,7 +2,7 @@
 ghost use Rattle.std.specs.Prelude.{◌&&◌, ◌≡◌, ◌+◌, ◌≤◌, ◌*◌, eqb, length};
 ghost use Rattle.session.specs.Area.{flag, state, location, text_bytes, key_code, key_text_ok, full_key, event, info, held, pressed, wait, entry, held_field, session_ok};
 ghost use Rattle.session.specs.Codec.{number, pair, list_of, get_many, ok_many};
-ghost use Rattle.session.specs.Limits.{UNITS_MOST, ENTRIES_MOST, AREA, ENTRY_SIZE, EVENT_SIZE, HELD_FIELD_SIZE, HELD_SIZE, INFO_SIZE, WAIT_SIZE};
+ghost use Rattle.session.specs.Limits.{UNITS_MOST as units_most, ENTRIES_MOST as entries_most, AREA, ENTRY_SIZE as entry_size, EVENT_SIZE, HELD_FIELD_SIZE as held_field_size, HELD_SIZE, INFO_SIZE as info_size, WAIT_SIZE};
 ghost use Rattle.session.specs.Session.{rising, first_open};
 ghost use Rattle.questions.specs.Order.{ordered};
 
@@ -105,7 +105,7 @@ pub fn event_ok(s: &[u8]) -> bool
 // ---- what is kept of a press or a release
 
 fn info_ok(s: &[u8]) -> bool
-    requires { INFO_SIZE ≤ length s.now }
+    requires { info_size ≤ length s.now }
     ensures { result ≡ info.ok s.now }
 {
     if 1 < s[2] {
@@ -124,8 +124,8 @@ const UNITS_SIZE: usize = 1 + 2 * UNITS_MOST;
 
 // The units of a held press: their number, the units, zeros behind.
 fn units_ok(s: &[u8]) -> bool
-    requires { 1 + 2 * UNITS_MOST ≤ length s.now }
-    ensures { result ≡ (list_of 1 UNITS_MOST (number 2)).ok s.now }
+    requires { 1 + 2 * units_most ≤ length s.now }
+    ensures { result ≡ (list_of 1 units_most (number 2)).ok s.now }
 {
     let n = s[0] as usize;
     if UNITS_MOST < n {
@@ -188,7 +188,7 @@ fn wait_ok(s: &[u8]) -> bool
 
 // Whether the tokens rise strictly and stay below the number handed out.
 fn rising_ok(s: &[u8], n: usize, handed: u16) -> bool
-    requires { (n ≤ ENTRIES_MOST) × (n * ENTRY_SIZE ≤ length s.now) }
+    requires { (n ≤ entries_most) × (n * entry_size ≤ length s.now) }
     ensures { result ≡ rising 0 handed (get_many entry n s.now) }
 {
     let mut i: usize = 0;
@@ -209,7 +209,7 @@ fn rising_ok(s: &[u8], n: usize, handed: u16) -> bool
 
 // Whether the first entry is unresolved; without an entry no token is handed out.
 fn first_open(s: &[u8], n: usize, handed: u16) -> bool
-    requires { (n ≤ ENTRIES_MOST) × (n * ENTRY_SIZE ≤ length s.now) }
+    requires { (n ≤ entries_most) × (n * entry_size ≤ length s.now) }
     ensures { result ≡ first_open handed (get_many entry n s.now) }
 {
     if n == 0 {
@@ -219,7 +219,7 @@ fn first_open(s: &[u8], n: usize, handed: u16) -> bool
 }
 
 fn order_ok(s: &[u8], n: usize, handed: u16) -> bool
-    requires { (n ≤ ENTRIES_MOST) × (n * ENTRY_SIZE ≤ length s.now) }
+    requires { (n ≤ entries_most) × (n * entry_size ≤ length s.now) }
     ensures { result ≡ ordered handed (get_many entry n s.now) }
 {
     if !rising_ok(s, n, handed) {
@@ -234,7 +234,7 @@ fn order_ok(s: &[u8], n: usize, handed: u16) -> bool
 // ---- an entry
 
 fn entry_ok(s: &[u8]) -> bool
-    requires { ENTRY_SIZE ≤ length s.now }
+    requires { entry_size ≤ length s.now }
     ensures { result ≡ entry.ok s.now }
 {
     if s[2] == 0 {
@@ -252,7 +252,7 @@ fn entry_ok(s: &[u8]) -> bool
 // ---- the queue: n entries from the first byte on
 
 fn entries_ok(s: &[u8], n: usize) -> bool
-    requires { (n ≤ ENTRIES_MOST) × (n * ENTRY_SIZE ≤ length s.now) }
+    requires { (n ≤ entries_most) × (n * entry_size ≤ length s.now) }
     ensures { result ≡ ok_many entry n s.now }
 {
     let mut i: usize = 0;
@@ -269,7 +269,7 @@ fn entries_ok(s: &[u8], n: usize) -> bool
 
 // Whether a press is held, and which.
 fn held_field_ok(s: &[u8]) -> bool
-    requires { HELD_FIELD_SIZE ≤ length s.now }
+    requires { held_field_size ≤ length s.now }
     ensures { result ≡ held_field.ok s.now }
 {
     if s[0] == 0 {

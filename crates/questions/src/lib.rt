@@ -9,7 +9,7 @@ ghost use Rattle.std.specs.Prelude.{true, ◌≡◌, ℕ, ◌≤◌};
 ghost use Rattle.lookup.specs.Block.{block_ok};
 ghost use Rattle.session.specs.Area.{decode};
 ghost use Rattle.session.specs.Calls.{char};
-ghost use Rattle.session.specs.Limits.{ENTRIES_MOST};
+ghost use Rattle.session.specs.Limits.{ENTRIES_MOST as entries_most};
 ghost use Rattle.session.specs.Questions.{first_no, opens, new_entries, units_after, question5, question6, message_questions, finish_questions};
 ghost use Rattle.event.specs.Written.{keyboard_at};
 ghost use Rattle.queue.specs.Room.{IsArea};
@@ -77,7 +77,7 @@ fn opens(session: &[u8], sort: MessageSort) -> bool
 // SCOPE 6.0: how many entries it needs, and so many tokens. Focus on an empty queue needs none.
 fn new_entries(session: &[u8], state: &[u8], block: &[u8], sort: MessageSort) -> usize
     requires { IsArea session.now × (block_ok block.now ≡ true) }
-    ensures { (result ≡ new_entries (decode session.now) (keyboard_at state.now block.now) (as_sort sort)) × (result ≤ ENTRIES_MOST) }
+    ensures { (result ≡ new_entries (decode session.now) (keyboard_at state.now block.now) (as_sort sort)) × (result ≤ entries_most) }
 {
     let h = record::read::header_at(session);
     match sort {

@@ -11,7 +11,7 @@ ghost use Rattle.session.specs.Area.{bytes_of, location, state, flag, key_code, 
 ghost use Rattle.session.specs.Builder.{typed_text, dead_char_event};
 ghost use Rattle.session.specs.Codec.{pair};
 ghost use Rattle.session.specs.InBlock.{last_in, LastFits, last_key, completed_with};
-ghost use Rattle.session.specs.Limits.{ENTRIES_MOST, EVENT_SIZE, TEXT_MOST, KEY_TEXT_MOST};
+ghost use Rattle.session.specs.Limits.{ENTRIES_MOST, EVENT_SIZE, TEXT_MOST as text_most, KEY_TEXT_MOST as key_text_most};
 ghost use Rattle.session.specs.declared.ElementState.TheVariants.{Pressed};
 ghost use Rattle.queue.specs.Completing.{Completing, held_in, rest_of};
 ghost use Rattle.queue.specs.Stands.{event_place, FieldStands, EventStands};
@@ -111,7 +111,7 @@ fn put_layout_text(
     k: LayoutKey,
     t: KeyText,
 )
-    requires { Completing session.old answers.old place × (off + (1 + TEXT_MOST) ≤ EVENT_SIZE) × (length (bytes_of (text_from (part_of block.now k) t)) ≤ TEXT_MOST) }
+    requires { Completing session.old answers.old place × (off + (1 + text_most) ≤ EVENT_SIZE) × (length (bytes_of (text_from (part_of block.now k) t)) ≤ text_most) }
     ensures { FieldStands place off (opt_text.put (text_from (part_of block.now k) t)) session.old answers.old session.new answers.new }
 {
     if place == 0 {
@@ -124,7 +124,7 @@ fn put_layout_text(
 // An unidentified logical key, with its scan code.
 fn put_unidentified(session: &mut [u8], answers: &mut [u8], place: usize, scancode: u16)
     requires { Completing session.old answers.old place }
-    ensures { FieldStands place 6 ((full_key TEXT_MOST).put (unidentified (Windows scancode))) session.old answers.old session.new answers.new }
+    ensures { FieldStands place 6 ((full_key text_most).put (unidentified (Windows scancode))) session.old answers.old session.new answers.new }
 {
     let key = Key::Unidentified(NativeKeyCode::Windows(scancode));
     if place == 0 {
@@ -137,7 +137,7 @@ fn put_unidentified(session: &mut [u8], answers: &mut [u8], place: usize, scanco
 // The logical key that the press is held with.
 fn put_kept_key(session: &mut [u8], answers: &mut [u8], place: usize)
     requires { Completing session.old answers.old place }
-    ensures { FieldStands place 6 ((full_key TEXT_MOST).put (held_in session.old).info.logical_key) session.old answers.old session.new answers.new }
+    ensures { FieldStands place 6 ((full_key text_most).put (held_in session.old).info.logical_key) session.old answers.old session.new answers.new }
 {
     if place == 0 {
         record::complete::copy_key(session, HELD_KEY_AT, answers, ANSWER_EVENTS_AT + KEY_AT);
@@ -150,7 +150,7 @@ fn put_kept_key(session: &mut [u8], answers: &mut [u8], place: usize)
 // Its key without modifiers.
 fn put_plain_key(session: &mut [u8], answers: &mut [u8], place: usize)
     requires { Completing session.old answers.old place }
-    ensures { FieldStands place 164 ((full_key KEY_TEXT_MOST).put (held_in session.old).info.key_without_modifiers) session.old answers.old session.new answers.new }
+    ensures { FieldStands place 164 ((full_key key_text_most).put (held_in session.old).info.key_without_modifiers) session.old answers.old session.new answers.new }
 {
     if place == 0 {
         area::span::copy_part(
@@ -168,7 +168,7 @@ fn put_plain_key(session: &mut [u8], answers: &mut [u8], place: usize)
 
 // The text of its units.
 fn put_typed(session: &mut [u8], answers: &mut [u8], place: usize, off: usize)
-    requires { Completing session.old answers.old place × (off + (1 + TEXT_MOST) ≤ EVENT_SIZE) }
+    requires { Completing session.old answers.old place × (off + (1 + text_most) ≤ EVENT_SIZE) }
     ensures { FieldStands place off (opt_text.put (typed_text (held_in session.old).units)) session.old answers.old session.new answers.new }
 {
     if place == 0 {
@@ -189,7 +189,7 @@ pub fn put_last_text(
     block: &[u8],
     last: LastText,
 )
-    requires { Completing session.old answers.old place × (off + (1 + TEXT_MOST) ≤ EVENT_SIZE) × LastFits block.now last }
+    requires { Completing session.old answers.old place × (off + (1 + text_most) ≤ EVENT_SIZE) × LastFits block.now last }
     ensures { FieldStands place off (opt_text.put (last_in block.now (held_in session.old).units last)) session.old answers.old session.new answers.new }
 {
     match last {
@@ -201,7 +201,7 @@ pub fn put_last_text(
 // The logical key where that of the press is known, else an unidentified one.
 fn put_known_key(session: &mut [u8], answers: &mut [u8], place: usize, known: bool)
     requires { Completing session.old answers.old place }
-    ensures { FieldStands place 6 ((full_key TEXT_MOST).put (pick known (held_in session.old).info.logical_key (unidentified (Windows (held_in session.old).info.scancode)))) session.old answers.old session.new answers.new }
+    ensures { FieldStands place 6 ((full_key text_most).put (pick known (held_in session.old).info.logical_key (unidentified (Windows (held_in session.old).info.scancode)))) session.old answers.old session.new answers.new }
 {
     if known {
         put_kept_key(session, answers, place);
@@ -214,7 +214,7 @@ fn put_known_key(session: &mut [u8], answers: &mut [u8], place: usize, known: bo
 // The text that completes the press, as its logical key: a character has zeros before its text.
 fn put_text_key(session: &mut [u8], answers: &mut [u8], place: usize, block: &[u8], last: LastText)
     requires { Completing session.old answers.old place × LastFits block.now last }
-    ensures { FieldStands place 6 ((full_key TEXT_MOST).put (character (bytes_of (last_in block.now (held_in session.old).units last)))) session.old answers.old session.new answers.new }
+    ensures { FieldStands place 6 ((full_key text_most).put (character (bytes_of (last_in block.now (held_in session.old).units last)))) session.old answers.old session.new answers.new }
 {
     put_last_text(session, answers, place, KEY_AT + KEY_NUMBERS, block, last);
     put_zeros(session, answers, place, KEY_AT, KEY_NUMBERS);
@@ -230,7 +230,7 @@ pub fn put_last_key(
     key: LastKey,
 )
     requires { Completing session.old answers.old place × LastFits block.now last }
-    ensures { FieldStands place 6 ((full_key TEXT_MOST).put (last_key key (held_in session.old).info (last_in block.now (held_in session.old).units last))) session.old answers.old session.new answers.new }
+    ensures { FieldStands place 6 ((full_key text_most).put (last_key key (held_in session.old).info (last_in block.now (held_in session.old).units last))) session.old answers.old session.new answers.new }
 {
     match key {
         LastKey::Held => put_known_key(session, answers, place, true),

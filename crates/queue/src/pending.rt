@@ -7,7 +7,7 @@ ghost use Rattle.session.specs.Area.{event, encode, decode};
 ghost use Rattle.session.specs.Calls.{opening};
 ghost use Rattle.session.specs.Event.{Event};
 ghost use Rattle.session.specs.InBlock.{info_in, InfoIn, event_in, EventIn};
-ghost use Rattle.session.specs.Limits.{AREA, ENTRIES_MOST, TOKENS_MOST, COUNT_AT, ENTRIES_AT, ENTRY_SIZE};
+ghost use Rattle.session.specs.Limits.{AREA, ENTRIES_MOST, TOKENS_MOST, COUNT_AT as count_at, ENTRIES_AT as entries_at, ENTRY_SIZE as entry_size};
 ghost use Rattle.session.specs.Questions.{last_token, is_token};
 ghost use Rattle.session.specs.Session.{press, release, character, info_fits, event_fits, open_count};
 ghost use Rattle.queue.specs.Changed.{with_event, with_resolved, emptied};
@@ -27,15 +27,15 @@ use session::{
 // Where the entry behind the last one goes.
 fn next_place(h: Header) -> usize
     requires { h.count < ENTRIES_MOST }
-    ensures { result ≡ ENTRIES_AT + ENTRY_SIZE * h.count }
+    ensures { result ≡ entries_at + entry_size * h.count }
 {
     ENTRIES_AT + ENTRY_SIZE * h.count as usize
 }
 
 // One entry more, and one token more handed out.
 fn count_one(session: &mut [u8], h: Header)
-    requires { (ENTRIES_AT ≤ length session.old) × (h.count < ENTRIES_MOST) × (h.handed < TOKENS_MOST) }
-    ensures { session.new ≡ splice 0 (le 2 (h.handed + 1)) (splice COUNT_AT (le 2 (h.count + 1)) session.old) }
+    requires { (entries_at ≤ length session.old) × (h.count < ENTRIES_MOST) × (h.handed < TOKENS_MOST) }
+    ensures { session.new ≡ splice 0 (le 2 (h.handed + 1)) (splice count_at (le 2 (h.count + 1)) session.old) }
 {
     area::put_u16(session, COUNT_AT, h.count + 1);
     area::put_u16(session, 0, h.handed + 1);

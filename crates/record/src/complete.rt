@@ -8,7 +8,7 @@ ghost use Rattle.text.specs.Stored.{units_in};
 ghost use Rattle.session.specs.Area.{flag, state, location, opt_text, full_key, event, info, held};
 ghost use Rattle.session.specs.Builder.{release_event, with_units};
 ghost use Rattle.session.specs.Codec.{pair, number, put_many};
-ghost use Rattle.session.specs.Limits.{TEXT_MOST, KEY_TEXT_MOST, UNITS_MOST, ENTRY_SIZE, EVENT_SIZE, HELD_SIZE, INFO_SIZE};
+ghost use Rattle.session.specs.Limits.{TEXT_MOST as text_most, KEY_TEXT_MOST as key_text_most, UNITS_MOST, ENTRY_SIZE, EVENT_SIZE, HELD_SIZE, INFO_SIZE};
 
 use crate::layout::KEY_SIZE;
 use keys::KeyLocation;
@@ -21,8 +21,8 @@ const KEY_ZEROS: usize = TEXT_MOST - KEY_TEXT_MOST;
 
 // From one area to the other.
 pub fn copy_key(src: &[u8], from: usize, dst: &mut [u8], to: usize)
-    requires { (from + (8 + KEY_TEXT_MOST) ≤ length src.now) × ((full_key KEY_TEXT_MOST).ok (drop from src.now) ≡ true) × (to + (8 + TEXT_MOST) ≤ length dst.old) }
-    ensures { dst.new ≡ splice to ((full_key TEXT_MOST).put ((full_key KEY_TEXT_MOST).get (drop from src.now))) dst.old }
+    requires { (from + (8 + key_text_most) ≤ length src.now) × ((full_key key_text_most).ok (drop from src.now) ≡ true) × (to + (8 + text_most) ≤ length dst.old) }
+    ensures { dst.new ≡ splice to ((full_key text_most).put ((full_key key_text_most).get (drop from src.now))) dst.old }
 {
     area::span::copy_part(src, from, dst, to, KEY_SIZE);
     area::span::put_zeros(dst, to + KEY_SIZE, KEY_ZEROS);
@@ -30,8 +30,8 @@ pub fn copy_key(src: &[u8], from: usize, dst: &mut [u8], to: usize)
 
 // Within one area, up by the gap.
 pub fn move_key(s: &mut [u8], from: usize, gap: usize)
-    requires { (from + gap + (8 + TEXT_MOST) ≤ length s.old) × ((full_key KEY_TEXT_MOST).ok (drop from s.old) ≡ true) }
-    ensures { s.new ≡ splice (from + gap) ((full_key TEXT_MOST).put ((full_key KEY_TEXT_MOST).get (drop from s.old))) s.old }
+    requires { (from + gap + (8 + text_most) ≤ length s.old) × ((full_key key_text_most).ok (drop from s.old) ≡ true) }
+    ensures { s.new ≡ splice (from + gap) ((full_key text_most).put ((full_key key_text_most).get (drop from s.old))) s.old }
 {
     area::span::move_up(s, from, gap, KEY_SIZE);
     area::span::put_zeros(s, from + gap + KEY_SIZE, KEY_ZEROS);
@@ -43,7 +43,7 @@ const TEXT_SIZE: usize = 1 + TEXT_MOST;
 
 // No text, the marks, no text with all modifiers.
 fn put_no_texts(s: &mut [u8], at: usize, l: KeyLocation, st: ElementState, repeat: bool)
-    requires { at + (2 * (1 + TEXT_MOST) + 4) ≤ length s.old }
+    requires { at + (2 * (1 + text_most) + 4) ≤ length s.old }
     ensures { s.new ≡ splice at ((pair opt_text (pair (pair location (pair state (pair flag flag))) opt_text)).put (none, ((l, (st, (repeat, false))), none))) s.old }
 {
     area::span::put_zeros(s, at, TEXT_SIZE);

@@ -9,7 +9,7 @@ ghost use Rattle.lookup.specs.Layout.{part_of, key_in};
 ghost use Rattle.session.specs.Area.{bytes_of, text_bytes, opt_text, full_key, event, info, held_field, entry};
 ghost use Rattle.session.specs.Builder.{undead};
 ghost use Rattle.session.specs.InBlock.{info_in, plain_in, event_in, FitsIn, InfoIn, EventIn};
-ghost use Rattle.session.specs.Limits.{TEXT_MOST, KEY_TEXT_MOST, INFO_SIZE, EVENT_SIZE, HELD_FIELD_SIZE, ENTRY_SIZE};
+ghost use Rattle.session.specs.Limits.{TEXT_MOST as text_most, KEY_TEXT_MOST as key_text_most, INFO_SIZE, EVENT_SIZE, HELD_FIELD_SIZE, ENTRY_SIZE as entry_size};
 ghost use Rattle.session.specs.Session.{release, waiting};
 
 use keys::{Key, KeyText, NativeKeyCode};
@@ -23,7 +23,7 @@ use session::{
 
 // A text's length, its bytes, zeros behind.
 fn put_part(s: &mut [u8], at: usize, most: usize, t: &[u8])
-    requires { (at + (1 + most) ≤ length s.old) × (length t.now ≤ most) × (most ≤ TEXT_MOST) }
+    requires { (at + (1 + most) ≤ length s.old) × (length t.now ≤ most) × (most ≤ text_most) }
     ensures { s.new ≡ splice at ((text_bytes most).put t.now) s.old }
 {
     area::put_u8(s, at, t.len() as u8);
@@ -46,7 +46,7 @@ fn own_part<'a>(block: &'a [u8], k: LayoutKey) -> &'a [u8]
 
 // A key's number, what it holds beside it, its text t.
 fn put_with(s: &mut [u8], at: usize, most: usize, key: Key, t: &[u8])
-    requires { (at + (8 + most) ≤ length s.old) × (length t.now ≤ most) × (most ≤ TEXT_MOST) × (text_in (full key t.now) ≡ t.now) }
+    requires { (at + (8 + most) ≤ length s.old) × (length t.now ≤ most) × (most ≤ text_most) × (text_in (full key t.now) ≡ t.now) }
     ensures { s.new ≡ splice at ((full_key most).put (full key t.now)) s.old }
 {
     let f = keys::key_number::key_fields(key);
@@ -57,7 +57,7 @@ fn put_with(s: &mut [u8], at: usize, most: usize, key: Key, t: &[u8])
 }
 
 pub fn put_key(s: &mut [u8], at: usize, most: usize, block: &[u8], k: LayoutKey)
-    requires { (at + (8 + most) ≤ length s.old) × (KEY_TEXT_MOST ≤ most) × (most ≤ TEXT_MOST) × FitsIn block.now k }
+    requires { (at + (8 + most) ≤ length s.old) × (key_text_most ≤ most) × (most ≤ text_most) × FitsIn block.now k }
     ensures { s.new ≡ splice at ((full_key most).put (key_in block.now k)) s.old }
 {
     let key = k.key;
@@ -66,7 +66,7 @@ pub fn put_key(s: &mut [u8], at: usize, most: usize, block: &[u8], k: LayoutKey)
 
 // A key without its text, as every key but a character is.
 pub fn put_bare_key(s: &mut [u8], at: usize, most: usize, key: Key)
-    requires { (at + (8 + most) ≤ length s.old) × (most ≤ TEXT_MOST) }
+    requires { (at + (8 + most) ≤ length s.old) × (most ≤ text_most) }
     ensures { s.new ≡ splice at ((full_key most).put (full key [])) s.old }
 {
     let none = [0u8; 1];
@@ -78,8 +78,8 @@ pub(crate) const KEY_SIZE: usize = 8 + KEY_TEXT_MOST;
 
 // A character of one scalar value, whose numbers are 0: zeros, its bytes, then their number before them.
 fn put_scalar_key(s: &mut [u8], at: usize, c: u32)
-    requires { (at + (8 + KEY_TEXT_MOST) ≤ length s.old) × (scalar c ≡ true) }
-    ensures { s.new ≡ splice at ((full_key KEY_TEXT_MOST).put (character (utf8_of c))) s.old }
+    requires { (at + (8 + key_text_most) ≤ length s.old) × (scalar c ≡ true) }
+    ensures { s.new ≡ splice at ((full_key key_text_most).put (character (utf8_of c))) s.old }
 {
     area::span::put_zeros(s, at, KEY_SIZE);
     let end = text::put_scalar(s, at + 8, c);
@@ -88,8 +88,8 @@ fn put_scalar_key(s: &mut [u8], at: usize, c: u32)
 
 // A dead key as its character, as an unidentified one where it has none; any other key as it is.
 fn put_undead_key(s: &mut [u8], at: usize, block: &[u8], k: LayoutKey)
-    requires { (at + (8 + KEY_TEXT_MOST) ≤ length s.old) × FitsIn block.now k }
-    ensures { s.new ≡ splice at ((full_key KEY_TEXT_MOST).put (undead (key_in block.now k))) s.old }
+    requires { (at + (8 + key_text_most) ≤ length s.old) × FitsIn block.now k }
+    ensures { s.new ≡ splice at ((full_key key_text_most).put (undead (key_in block.now k))) s.old }
 {
     let key = k.key;
     match key {
@@ -109,8 +109,8 @@ fn put_undead_key(s: &mut [u8], at: usize, block: &[u8], k: LayoutKey)
 
 // A key without modifiers; a dead one stays one where `dead` is set.
 fn put_plain_key(s: &mut [u8], at: usize, block: &[u8], dead: bool, k: LayoutKey)
-    requires { (at + (8 + KEY_TEXT_MOST) ≤ length s.old) × FitsIn block.now k }
-    ensures { s.new ≡ splice at ((full_key KEY_TEXT_MOST).put (plain_in block.now dead k)) s.old }
+    requires { (at + (8 + key_text_most) ≤ length s.old) × FitsIn block.now k }
+    ensures { s.new ≡ splice at ((full_key key_text_most).put (plain_in block.now dead k)) s.old }
 {
     if dead {
         put_key(s, at, KEY_TEXT_MOST, block, k);
@@ -121,7 +121,7 @@ fn put_plain_key(s: &mut [u8], at: usize, block: &[u8], dead: bool, k: LayoutKey
 
 // The text that a key gives: none, its own, or one byte.
 pub fn put_text(s: &mut [u8], at: usize, block: &[u8], k: LayoutKey, t: KeyText)
-    requires { (at + (1 + TEXT_MOST) ≤ length s.old) × (length (bytes_of (text_from (part_of block.now k) t)) ≤ TEXT_MOST) }
+    requires { (at + (1 + text_most) ≤ length s.old) × (length (bytes_of (text_from (part_of block.now k) t)) ≤ text_most) }
     ensures { s.new ≡ splice at (opt_text.put (text_from (part_of block.now k) t)) s.old }
 {
     match t {
@@ -204,7 +204,7 @@ pub fn put_release(
     block: &[u8],
     n: PartialKeyEventInfo,
 )
-    requires { (at + ENTRY_SIZE ≤ length s.old) × (token.0 < 65536) × InfoIn block.now n }
+    requires { (at + entry_size ≤ length s.old) × (token.0 < 65536) × InfoIn block.now n }
     ensures { s.new ≡ splice at (entry.put (waiting token.0 (release (info_in block.now n)))) s.old }
 {
     area::put_u16(s, at, token.0 as u16);

@@ -3,7 +3,7 @@ ghost use Rattle.std.specs.Prelude.{true, ◌≡◌, ◌≤◌, ◌*◌, length,
 ghost use Rattle.keys.specs.Text.{bare_of};
 ghost use Rattle.session.specs.Area.{full_key, held, pressed, entry, decode};
 ghost use Rattle.session.specs.Codec.{get_many};
-ghost use Rattle.session.specs.Limits.{KEY_TEXT_MOST, UNITS_MOST, ENTRIES_MOST, ENTRIES_AT, HELD_AT, ENTRY_SIZE};
+ghost use Rattle.session.specs.Limits.{KEY_TEXT_MOST, UNITS_MOST, ENTRIES_MOST, ENTRIES_AT, HELD_AT as held_at, ENTRY_SIZE as entry_size};
 ghost use Rattle.session.specs.Questions.{is_held};
 ghost use Rattle.session.specs.Session.{token_of, open_count};
 ghost use Rattle.record.specs.Pending.{pending_of};
@@ -28,8 +28,8 @@ pub fn bare_key_at(s: &[u8]) -> Key
 
 // How many units the held press has.
 pub fn unit_count(session: &[u8]) -> usize
-    requires { (ENTRIES_AT ≤ length session.now) × (held.ok (drop HELD_AT session.now) ≡ true) }
-    ensures { (result ≡ length (held.get (drop HELD_AT session.now)).units) × (result ≤ UNITS_MOST) }
+    requires { (ENTRIES_AT ≤ length session.now) × (held.ok (drop held_at session.now) ≡ true) }
+    ensures { (result ≡ length (held.get (drop held_at session.now)).units) × (result ≤ UNITS_MOST) }
 {
     session[HELD_AT + 71] as usize
 }
@@ -75,14 +75,14 @@ pub fn pressed_at(s: &[u8]) -> PressedKey
 }
 
 pub fn token_at(s: &[u8]) -> PendingMessageToken
-    requires { ENTRY_SIZE ≤ length s.now }
+    requires { entry_size ≤ length s.now }
     ensures { result.0 ≡ token_of (entry.get s.now) }
 {
     PendingMessageToken(area::get_u16(s, 0) as u32)
 }
 
 pub fn pending_at(s: &[u8]) -> Pending
-    requires { ENTRY_SIZE ≤ length s.now }
+    requires { entry_size ≤ length s.now }
     ensures { result ≡ pending_of (entry.get s.now) }
 {
     if s[2] != 0 {
@@ -110,7 +110,7 @@ pub fn header_at(session: &[u8]) -> Header
 
 // How many of n entries, from the first byte on, are unresolved: how many messages are open.
 pub fn open_count(s: &[u8], n: usize) -> usize
-    requires { (n ≤ ENTRIES_MOST) × (n * ENTRY_SIZE ≤ length s.now) }
+    requires { (n ≤ ENTRIES_MOST) × (n * entry_size ≤ length s.now) }
     ensures { result ≡ open_count (get_many entry n s.now) }
 {
     let mut i: usize = 0;

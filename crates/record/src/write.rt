@@ -6,7 +6,7 @@ ghost use Rattle.area.specs.Pick.{pick};
 ghost use Rattle.area.specs.Splice.{splice};
 ghost use Rattle.session.specs.Area.{flag_number, flag, state_number, state, location, key_code, pressed, held_field, encode, entry};
 ghost use Rattle.session.specs.Codec.{pair};
-ghost use Rattle.session.specs.Limits.{AREA, ENTRY_SIZE, HELD_FIELD_SIZE};
+ghost use Rattle.session.specs.Limits.{AREA, ENTRY_SIZE as entry_size, HELD_FIELD_SIZE as held_field_size};
 ghost use Rattle.session.specs.Session.{fresh_session, press, character, waiting};
 
 use keys::KeyLocation;
@@ -85,7 +85,7 @@ fn put_pressed(s: &mut [u8], at: usize, vkey: u16, l: KeyLParam)
 // ---- no held press
 
 pub fn put_no_held(s: &mut [u8], at: usize)
-    requires { at + HELD_FIELD_SIZE ≤ length s.old }
+    requires { at + held_field_size ≤ length s.old }
     ensures { s.new ≡ splice at (held_field.put none) s.old }
 {
     area::span::put_zeros(s, at, HELD_FIELD_SIZE);
@@ -123,7 +123,7 @@ const PRESS_ZEROS: usize = ENTRY_SIZE - 9;
 const CHARACTER_ZEROS: usize = ENTRY_SIZE - 5;
 
 pub fn put_press(s: &mut [u8], at: usize, token: PendingMessageToken, vkey: u16, l: KeyLParam)
-    requires { (at + ENTRY_SIZE ≤ length s.old) × (token.0 < 65536) }
+    requires { (at + entry_size ≤ length s.old) × (token.0 < 65536) }
     ensures { s.new ≡ splice at (entry.put (waiting token.0 (press vkey l))) s.old }
 {
     area::put_u16(s, at, token.0 as u16);
@@ -134,7 +134,7 @@ pub fn put_press(s: &mut [u8], at: usize, token: PendingMessageToken, vkey: u16,
 }
 
 pub fn put_character(s: &mut [u8], at: usize, token: PendingMessageToken)
-    requires { (at + ENTRY_SIZE ≤ length s.old) × (token.0 < 65536) }
+    requires { (at + entry_size ≤ length s.old) × (token.0 < 65536) }
     ensures { s.new ≡ splice at (entry.put (waiting token.0 character)) s.old }
 {
     area::put_u16(s, at, token.0 as u16);
