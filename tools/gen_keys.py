@@ -109,32 +109,18 @@ def enum():
 
 
 def number_code():
-    arms = lines(lambda i, c: f'        KeyCode::{c} => return {i + 1},', PLAIN)
-    return f'''// The place of a key code in tao's KeyCode. Each arm returns by itself: code behind the match would be proved once for every arm.
-pub fn code_number(c: KeyCode) -> u16
-    ensures {{ result ≡ code_number c }}
-{{
-    match c {{
-        KeyCode::Unidentified(_) => return 0,
-{arms}    }}
+    arms = lines(lambda i, c: f'            KeyCode::{c} => {i + 1},', PLAIN)
+    return f'''// The place of a key code in tao's KeyCode; `as` takes no enum that has a case with a value.
+impl From<KeyCode> for u16 {{
+    ghost from_gives = {{ λ c n. n ≡ code_number c }};
+
+    #[tactic(auto, unfolding(crate::specs::Number::code_number))]
+    fn from(c: KeyCode) -> u16 {{
+        match c {{
+            KeyCode::Unidentified(_) => 0,
+{arms}        }}
+    }}
 }}
-'''
-
-
-def code_number_proof():
-    answers = ''.join(f'    (λ c. c.in-{c}-1.keys{i + 1})\n    (λ c. tagged c.args.c c.in-{c}.in-{c}-own.keys{i + 1})\n'
-                      for i, c in enumerate(['Unidentified'] + PLAIN))
-    return f'''-- `keys::key_code::code_number` meets its contract: a key code's place is its tag, and in each arm the tag is the arm's number.
--- Assumes nothing.
-use Rattle.keys.proofs.key_code.Tags.{{tagged}}
-use Rattle.keys.proofs.key_code.code_number.Statement.{{statement}}
-use Rattle.keys.proofs.key_code.code_number.Tie as tie
-
-pub code_number_spec : {{M : Type 1}} → statement M
-code_number_spec =
-    tie.close
-    (tie.spec
-{answers.rstrip()})
 '''
 
 
@@ -156,12 +142,13 @@ each-code (kc.Unidentified held) = (refl, refl)
 
 
 def scan_code():
-    arms = lines(lambda i, a: f'        {" | ".join(a[0])} => return KeyCode::{a[1]},', ARMS)
-    return f'''pub fn keycode_from_scancode(scancode: u16) -> KeyCode
+    arms = lines(lambda i, a: f'        {" | ".join(a[0])} => KeyCode::{a[1]},', ARMS)
+    return f'''#[tactic(auto, unfolding(crate::specs::Codes::key_code_of, crate::specs::Codes::scan_codes, area::specs::Look::assoc))]
+pub fn keycode_from_scancode(scancode: u16) -> KeyCode
     ensures {{ result ≡ key_code_of scancode }}
 {{
     match scancode {{
-{arms}        _ => return KeyCode::Unidentified(NativeKeyCode::Windows(scancode)),
+{arms}        _ => KeyCode::Unidentified(NativeKeyCode::Windows(scancode)),
     }}
 }}
 '''
@@ -190,52 +177,21 @@ key_code_of n = assoc scan_codes (kc.Unidentified (nat.Windows n)) n
 
 def scan_proof():
     keys = ''.join('    (' + ' ∷ '.join(codes) + ' ∷ []) ∷\n' for codes, _ in reversed(ARMS))
-
-    def answer(i, row):
-        codes, key = row[0], row[1]
-        if len(codes) == 1:
-            return f'    (λ c. listed kc.{key} c.in-{int(codes[0], 16)}.is refl)'
-        return f'    (λ c. shared kc.{key} {" ".join(codes)} (search rules) refl refl)'
-    return f'''-- `lookup::keycode::keycode_from_scancode` meets its contract: each arm's code is looked up by computing, and the arm `_` by `missed`.
+    return f'''-- An unlisted code is in no arm, and so not in the table.
 -- Assumes nothing.
-use mathlib.Core.Path.{{◌≡◌, refl, sym, ap, ◌∙◌}}
-use mathlib.Core.List.{{List, [], ◌∷◌}}
-use mathlib.Core.Logic.{{◌⊎◌, ⊎_elim}}
-use Prim.Native.Nat.{{ℕ}}
-use borrow.Author.Rules.{{rules}}
-use Rattle.area.specs.Look.{{assoc}}
-use Rattle.area.proofs.Switch.{{Rest, missed}}
-use Rattle.keys.specs.declared.NativeKeyCode.TheVariants as nat
-use Rattle.keys.specs.declared.key_code.KeyCode.{{KeyCode}}
-use Rattle.keys.specs.declared.key_code.KeyCode.TheVariants as kc
+use Rattle.std.proofs.Common.{{rules, ℕ, List, [], ◌∷◌}}
+use Rattle.area.proofs.Switch.{{missed}}
 use Rattle.lookup.specs.Codes.{{scan_codes, key_code_of}}
-use Rattle.lookup.proofs.keycode.keycode_from_scancode.Statement.{{statement}}
-use Rattle.lookup.proofs.keycode.keycode_from_scancode.Tie as tie
+use Rattle.lookup.proofs.keycode.keycode_from_scancode.Goals as goal
 
 -- the arms' codes, the last arm first
 abbrev arms : List (List ℕ)
 arms =
 {keys}    []
 
--- the laws leave key_code_of shut in the proof, so that a wrong arm is refused without computing it
-listed : (r : KeyCode) {{x k : ℕ}} → x ≡ k → assoc scan_codes (kc.Unidentified (nat.Windows k)) k ≡ r → r ≡ key_code_of x
-unfolding key_code_of
-listed r h e = sym e ∙ sym (ap key_code_of h)
-
--- of an arm of two codes; which it has is searched for, since such an arm goes by its first code's name
-shared : (r : KeyCode) (k l : ℕ) {{x : ℕ}} → (x ≡ k) ⊎ (x ≡ l) → assoc scan_codes (kc.Unidentified (nat.Windows k)) k ≡ r → assoc scan_codes (kc.Unidentified (nat.Windows l)) l ≡ r → r ≡ key_code_of x
-shared r k l h e f = ⊎_elim (λ j. listed r j e) (λ j. listed r j f) h
-
-unlisted : (n : ℕ) → Rest arms n → kc.Unidentified (nat.Windows n) ≡ key_code_of n
+pub returns-in_default : goal.returns-in_default
 unfolding key_code_of scan_codes
-unlisted n rest = missed arms n (kc.Unidentified (nat.Windows n)) scan_codes rest tt
-
-pub keycode_from_scancode_spec : {{M : Type 1}} → statement M
-unfolding scan_codes assoc
-keycode_from_scancode_spec =
-    tie.close
-    (tie.spec
-{lines(answer, ARMS)}    (λ c. unlisted c.before.args.scancode c.in_default.in_default-own.rest))
+returns-in_default c = missed arms _ _ scan_codes (search rules) tt
 '''
 
 
@@ -262,10 +218,9 @@ def main():
     replace('crates/keys/src/lib.rt', places=place_code())
     write('crates/keys/specs/Number.antt', number_specs())
     replace('crates/keys/src/key_code.rt', KeyCode=enum(), code_number=number_code())
-    write('crates/keys/proofs/key_code/code_number/Proof.antt', code_number_proof())
     write('crates/keys/proofs/key_code/EachCode.antt', each_code_proof())
     write('crates/lookup/specs/Codes.antt', scan_specs())
-    write('crates/lookup/proofs/keycode/keycode_from_scancode/Proof.antt', scan_proof())
+    write('crates/lookup/proofs/keycode/keycode_from_scancode/Answers.antt', scan_proof())
     replace('crates/lookup/src/keycode.rt', keycode_from_scancode=scan_code())
 
 

@@ -6,11 +6,9 @@ ghost use Rattle.area.specs.Zero.{all_zero, or_rest};
 pub fn or_all(t: &[u8]) -> u8
     ensures { result ≡ or_rest 0 t.now }
 {
-    let mut acc: u8 = 0;
-    let mut i = 0;
-    while i < t.len() {
-        acc = acc | t[i];
-        i += 1;
+    let mut acc = 0;
+    for x in t {
+        acc |= *x;
     }
     acc
 }

@@ -8,23 +8,17 @@ pub fn copy_part(src: &[u8], from: usize, dst: &mut [u8], to: usize, count: usiz
     requires { (from + count ≤ length src.now) × (to + count ≤ length dst.old) }
     ensures { dst.new ≡ splice to (take count (drop from src.now)) dst.old }
 {
-    let mut i = 0;
-    while i < count {
-        dst[to + i] = src[from + i];
-        i += 1;
-    }
+    dst[to..to + count].copy_from_slice(&src[from..from + count]);
 }
+
+// ---- moves within one list: `copy_within`, once for each direction, whose contract has the gap as its callers have it
 
 // `count` bytes of s from `to + gap`, down to `to`; the two parts may overlap.
 pub fn move_down(s: &mut [u8], to: usize, gap: usize, count: usize)
     requires { to + gap + count ≤ length s.old }
     ensures { s.new ≡ splice to (take count (drop (to + gap) s.old)) s.old }
 {
-    let mut i = 0;
-    while i < count {
-        s[to + i] = s[to + gap + i];
-        i += 1;
-    }
+    s.copy_within(to + gap..to + gap + count, to);
 }
 
 // `count` bytes of s from `from`, up to `from + gap`; the two parts may overlap.
@@ -32,23 +26,17 @@ pub fn move_up(s: &mut [u8], from: usize, gap: usize, count: usize)
     requires { from + gap + count ≤ length s.old }
     ensures { s.new ≡ splice (from + gap) (take count (drop from s.old)) s.old }
 {
-    let mut i = count;
-    while 0 < i {
-        i -= 1;
-        s[from + gap + i] = s[from + i];
-    }
+    s.copy_within(from..from + count, from + gap);
 }
+
+// ---- zeros
 
 // `count` zeros from `at` on.
 pub fn put_zeros(s: &mut [u8], at: usize, count: usize)
     requires { at + count ≤ length s.old }
     ensures { s.new ≡ splice at (replicate count 0) s.old }
 {
-    let mut i = 0;
-    while i < count {
-        s[at + i] = 0;
-        i += 1;
-    }
+    s[at..at + count].fill(0);
 }
 
 // t at `at`, with zeros behind it up to the width.
@@ -66,6 +54,5 @@ pub fn fill_zero(s: &mut [u8], n: usize)
     requires { n ≤ length s.old }
     ensures { s.new ≡ zero_from n s.old }
 {
-    let count = s.len() - n;
-    put_zeros(s, n, count);
+    s[n..].fill(0);
 }

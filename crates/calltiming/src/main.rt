@@ -9,192 +9,103 @@
 // many rounds read what they had written.
 #![tactic(auto)]
 
-use event::peeked::Peeked;
 use lookup::block::HEAD;
-use session::{AREA_SIZE, COUNT_AT, ENTRIES_AT, ENTRY_SIZE, PendingMessageToken, ProcResult};
-use show::{Said, decimal, text, u16_at};
-use std::io::Read;
-use std::rt::{Env, Runtime};
-use std::{fs, io};
-
-#[derive(Clone, Copy)]
-struct Message {
-    kind: u32,
-    wparam: u64,
-    lparam: u64,
-}
+use session::{
+    AREA_SIZE, COUNT_AT, ENTRIES_AT, ENTRY_SIZE, Message, PendingMessageToken, ProcResult, Refusal,
+    WM_CHAR, WM_KEYDOWN, WM_KEYUP,
+};
+use show::{Host, read_file, u16_at};
+use std::io;
+use std::rt::Env;
 
 // The digit 1: the key 31, whose scan code is 02.
-fn press() -> Message {
-    Message {
-        kind: 0x100,
-        wparam: 0x31,
-        lparam: 0x20001,
+
+const PRESS: Message = Message {
+    kind: WM_KEYDOWN,
+    wparam: 0x31,
+    lparam: 0x20001,
+};
+
+const CHARACTER: Message = Message {
+    kind: WM_CHAR,
+    wparam: 0x31,
+    lparam: 0x20001,
+};
+
+const RELEASE: Message = Message {
+    kind: WM_KEYUP,
+    wparam: 0x31,
+    lparam: 0xc0020001,
+};
+
+// ---- what is asked for
+
+#[derive(Clone, Copy)]
+enum Work {
+    Digits,
+    DigitsBehind,
+    Floors,
+}
+
+// What a letter asks for, and whether it is timed with us.block and unicode.breaks.
+fn work_of(letter: u8) -> (Work, bool) {
+    match letter {
+        b'u' => (Work::Digits, true),
+        b'q' => (Work::DigitsBehind, false),
+        b'v' => (Work::DigitsBehind, true),
+        b'f' => (Work::Floors, false),
+        b'g' => (Work::Floors, true),
+        _ => (Work::Digits, false),
     }
 }
 
-fn character() -> Message {
-    Message {
-        kind: 0x102,
-        wparam: 0x31,
-        lparam: 0x20001,
+// What the rounds count, added up.
+fn count_rounds<F: FnMut(u64) -> u64>(rounds: u64, mut count_round: F) -> u64
+    requires { F.IsAlwaysCallable count_round }
+{
+    let mut count: u64 = 0;
+    for i in 0..rounds {
+        count = count.wrapping_add(count_round(i));
     }
-}
-
-fn release() -> Message {
-    Message {
-        kind: 0x101,
-        wparam: 0x31,
-        lparam: 0xc0020001,
-    }
-}
-
-// The character, peeked when the press is finished.
-fn coming() -> Peeked {
-    Peeked::Message(0x102, 0x31, 0x20001)
-}
-
-// The number that decimal digits spell; one of ten digits and more counts as 0.
-fn rounds_in(t: &[u8]) -> u64 {
-    if 9 < t.len() {
-        return 0;
-    }
-    let mut n: u64 = 0;
-    let mut i: usize = 0;
-    while i < t.len() {
-        n = n % 1_000_000_000 * 10 + (t[i] % 16) as u64;
-        i += 1;
-    }
-    n
+    count
 }
 
 // ---- calls
 
-fn open(
-    session: &mut [u8],
-    answers: &mut [u8],
-    state: &[u8],
-    block: &[u8],
-    table: &[u8],
-    m: Message,
-) -> Said {
-    let lent = ProcResult::DefWindowProc;
-    let kind = m.kind;
-    let o = message::open(
-        session, answers, state, block, table, kind, m.wparam, m.lparam, lent,
-    );
-    let a = o.answer;
-    show::said_by_open(a)
+// tools/stack takes the frames of this function and of `whole` by their names.
+fn open(host: &mut Host<'_>, message: Message) -> Result<Option<PendingMessageToken>, Refusal> {
+    host.open(message, ProcResult::DefWindowProc).answer
 }
 
-fn finish(
-    session: &mut [u8],
-    answers: &mut [u8],
-    state: &[u8],
-    block: &[u8],
-    table: &[u8],
-    token: u32,
-    peeked: Peeked,
-) -> Said {
-    let t = PendingMessageToken(token);
-    let a = message::finish(session, answers, state, block, table, t, peeked);
-    show::said_by_finish(a)
-}
-
-// 2 where both calls passed, and how many events the finish handed out.
-fn counted(opened: Said, finished: Said, answers: &[u8]) -> u64 {
-    let events = u16_at(answers, 0) as u64;
-    if opened.what == 2 && finished.what == 1 {
-        return events + 2;
-    }
-    events
-}
-
-// A message opened, and finished with what was peeked.
-fn whole(
-    session: &mut [u8],
-    answers: &mut [u8],
-    state: &[u8],
-    block: &[u8],
-    table: &[u8],
-    m: Message,
-    peeked: Peeked,
-) -> u64 {
-    let opened = open(session, answers, state, block, table, m);
-    let finished = finish(session, answers, state, block, table, opened.number, peeked);
-    counted(opened, finished, answers)
+// A message opened, and finished with what was peeked: 2 where both calls passed, and how many events the finish handed out.
+fn whole(host: &mut Host<'_>, message: Message, peeked: Option<Message>) -> u64 {
+    let passed = match open(host, message) {
+        Ok(Some(token)) => host.finish(token, peeked).is_ok(),
+        _ => false,
+    };
+    let events = u64::from(host.event_count());
+    if passed { events + 2 } else { events }
 }
 
 // The six calls of a digit: 6, and 2 events where the queue was empty.
-fn digit(
-    session: &mut [u8; AREA_SIZE],
-    answers: &mut [u8; AREA_SIZE],
-    state: &[u8; 256],
-    block: &[u8],
-    table: &[u8],
-) -> u64 {
-    let pressed = whole(session, answers, state, block, table, press(), coming());
-    let typed = whole(
-        session,
-        answers,
-        state,
-        block,
-        table,
-        character(),
-        Peeked::Nothing,
-    );
-    let released = whole(
-        session,
-        answers,
-        state,
-        block,
-        table,
-        release(),
-        Peeked::Nothing,
-    );
-    let both = std::num::wrapping_add_u64(pressed, typed);
-    std::num::wrapping_add_u64(both, released)
+fn digit(host: &mut Host<'_>) -> u64 {
+    let pressed = whole(host, PRESS, Some(CHARACTER));
+    let typed = whole(host, CHARACTER, None);
+    let released = whole(host, RELEASE, None);
+    pressed.wrapping_add(typed).wrapping_add(released)
 }
 
-fn digits(
-    session: &mut [u8; AREA_SIZE],
-    answers: &mut [u8; AREA_SIZE],
-    state: &[u8; 256],
-    block: &[u8],
-    table: &[u8],
-    rounds: u64,
-) -> u64 {
-    let mut count: u64 = 0;
-    let mut i: u64 = 0;
-    while i < rounds {
-        let one = digit(session, answers, state, block, table);
-        count = std::num::wrapping_add_u64(count, one);
-        i += 1;
-    }
-    count
+fn digits(host: &mut Host<'_>, rounds: u64) -> u64 {
+    count_rounds(rounds, |_| digit(host))
 }
 
 // ---- a long queue
 
 // 254 entries: a press that stays open, 126 digits of two events each and a release.
-fn fill_queue(
-    session: &mut [u8; AREA_SIZE],
-    answers: &mut [u8; AREA_SIZE],
-    state: &[u8; 256],
-    block: &[u8],
-    table: &[u8],
-) {
-    open(session, answers, state, block, table, press());
-    digits(session, answers, state, block, table, 126);
-    whole(
-        session,
-        answers,
-        state,
-        block,
-        table,
-        release(),
-        Peeked::Nothing,
-    );
+fn fill_queue(host: &mut Host<'_>) {
+    let _ = open(host, PRESS);
+    digits(host, 126);
+    whole(host, RELEASE, None);
 }
 
 // The queue of 254 entries as it was: what stands before the entries, and no entry behind the 254.
@@ -203,160 +114,97 @@ fn put_back(session: &mut [u8; AREA_SIZE], before: &[u8; ENTRIES_AT]) {
     area::span::put_zeros(session, ENTRIES_AT + ENTRY_SIZE * 254, ENTRY_SIZE * 2);
 }
 
-fn digits_behind(
-    session: &mut [u8; AREA_SIZE],
-    answers: &mut [u8; AREA_SIZE],
-    state: &[u8; 256],
-    block: &[u8],
-    table: &[u8],
-    rounds: u64,
-) -> u64 {
+fn digits_behind(host: &mut Host<'_>, rounds: u64) -> u64 {
     let mut before = [0u8; ENTRIES_AT];
-    fill_queue(session, answers, state, block, table);
-    area::span::copy_part(session, 0, &mut before, 0, ENTRIES_AT);
-    let mut count: u64 = 0;
-    let mut i: u64 = 0;
-    while i < rounds {
-        put_back(session, &before);
-        let one = digit(session, answers, state, block, table);
-        count = std::num::wrapping_add_u64(count, one);
-        i += 1;
-    }
-    count
+    fill_queue(host);
+    area::span::copy_part(&host.session, 0, &mut before, 0, ENTRIES_AT);
+    count_rounds(rounds, |_| {
+        put_back(&mut host.session, &before);
+        digit(host)
+    })
 }
 
 // ---- the floor
 
-// The plain work of one call. A byte of each area changes from round to round, so that no round can be left out; 1 where it is read.
+// The plain work of one call. A byte of each area changes from round to round, so that no round can be left out. It counts where it is read.
 fn floor_one(
     session: &mut [u8; AREA_SIZE],
     answers: &mut [u8; AREA_SIZE],
     block: &mut [u8],
     table: &mut [u8],
-    i: u64,
+    round: u64,
 ) -> u64 {
-    let at = (i % 65536) as usize;
-    let bit = (i % 2) as u8;
-    if block.len() == 0 {
+    let at = (round % 65536) as usize;
+    let bit = (round % 2) as u8;
+    let ([block_byte, ..], [table_byte, ..]) = (&mut *block, &mut *table) else {
         return 0;
-    }
-    if table.len() == 0 {
-        return 0;
-    }
+    };
     session[at] = bit;
-    block[0] = bit;
-    table[0] = bit;
+    *block_byte = bit;
+    *table_byte = bit;
     answers[at] = 1;
     let read = area::scan::or_all(session) | area::scan::or_all(block) | area::scan::or_all(table);
     area::span::fill_zero(answers, 0);
-    if bit <= read && answers[at] == 0 {
-        return 1;
-    }
-    0
+    u64::from(bit <= read && answers[at] == 0)
 }
 
-fn floors(
-    session: &mut [u8; AREA_SIZE],
-    answers: &mut [u8; AREA_SIZE],
-    block: &mut [u8],
-    table: &mut [u8],
-    rounds: u64,
-) -> u64 {
-    let mut count: u64 = 0;
-    let mut i: u64 = 0;
-    while i < rounds {
-        let one = floor_one(session, answers, block, table, i);
-        count = std::num::wrapping_add_u64(count, one);
-        i += 1;
-    }
-    count
-}
-
-// ---- what is asked for
-
-fn counted_of(
-    what: u8,
-    session: &mut [u8; AREA_SIZE],
-    answers: &mut [u8; AREA_SIZE],
-    state: &[u8; 256],
-    block: &mut [u8],
-    table: &mut [u8],
-    rounds: u64,
-) -> u64 {
-    if what == b'f' || what == b'g' {
-        return floors(session, answers, block, table, rounds);
-    }
-    if what == b'q' || what == b'v' {
-        return digits_behind(session, answers, state, block, table, rounds);
-    }
-    digits(session, answers, state, block, table, rounds)
-}
+// ---- the program
 
 fn show_count(rt: &impl Print, count: u64, session: &[u8; AREA_SIZE]) -> io::Result<()> {
-    decimal(rt, count)?;
-    text(rt, b" counted, ")?;
-    decimal(rt, u16_at(session, COUNT_AT) as u64)?;
-    text(rt, b" entries\n")
+    println!(rt; "{count} counted, {} entries", u16_at(session, COUNT_AT))
+}
+
+fn run_floors(rt: &impl Print, block: &mut [u8], table: &mut [u8], rounds: u64) -> io::Result<()> {
+    let mut session = [0; AREA_SIZE];
+    let mut answers = [0; AREA_SIZE];
+    let count = count_rounds(rounds, |i| {
+        floor_one(&mut session, &mut answers, block, table, i)
+    });
+    show_count(rt, count, &session)
+}
+
+fn run_calls<F: FnOnce(&mut Host<'_>) -> u64>(
+    rt: &impl Print,
+    block: &[u8],
+    table: &[u8],
+    count_calls: F,
+) -> io::Result<()>
+    requires { F.IsAlwaysCallable count_calls }
+{
+    let mut host = Host::new(block, table);
+    let count = count_calls(&mut host);
+    show_count(rt, count, &host.session)
 }
 
 fn run(
     rt: &impl Print,
-    what: u8,
+    work: Work,
     block: &mut [u8],
     table: &mut [u8],
     rounds: u64,
 ) -> io::Result<()> {
-    let mut session = [0u8; AREA_SIZE];
-    let mut answers = [0u8; AREA_SIZE];
-    let state = [0u8; 256];
-    record::write::fresh(&mut session);
-    let count = counted_of(
-        what,
-        &mut session,
-        &mut answers,
-        &state,
-        block,
-        table,
-        rounds,
-    );
-    show_count(rt, count, &session)
-}
-
-fn run_with_us(rt: &impl Runtime, what: u8, block: &mut [u8], rounds: u64) -> io::Result<()> {
-    let file = match fs::open(rt, "unicode.breaks") {
-        Ok(file) => file,
-        Err(e) => return eprintln!(rt; "unicode.breaks: {e}"),
-    };
-    let mut space = Vec::new(rt.alloc());
-    file.take(65536).read_to_end(&mut space)?;
-    run(rt, what, block, space.as_mut_slice(), rounds)
-}
-
-fn run_on_us(rt: &impl Runtime, what: u8, rounds: u64) -> io::Result<()> {
-    let file = match fs::open(rt, "us.block") {
-        Ok(file) => file,
-        Err(e) => return eprintln!(rt; "us.block: {e}"),
-    };
-    let mut space = Vec::new(rt.alloc());
-    file.take(65536).read_to_end(&mut space)?;
-    run_with_us(rt, what, space.as_mut_slice(), rounds)
-}
-
-fn run_on_smallest(rt: &impl Print, what: u8, rounds: u64) -> io::Result<()> {
-    let mut block = [0u8; HEAD];
-    let mut table = [0u8; 8];
-    run(rt, what, &mut block, &mut table, rounds)
+    match work {
+        Work::Digits => run_calls(rt, block, table, |host| digits(host, rounds)),
+        Work::DigitsBehind => run_calls(rt, block, table, |host| digits_behind(host, rounds)),
+        Work::Floors => run_floors(rt, block, table, rounds),
+    }
 }
 
 fn main(rt: HostRuntime) -> io::Result<()> {
     let mut word = [0u8; 4096];
     let _ = rt.arg(1, &mut word);
-    let what = word[0];
+    let (work, with_us) = work_of(word[0]);
     let mut number = [0u8; 4096];
     let n = rt.arg(2, &mut number).unwrap_or(0);
-    let rounds = rounds_in(&number[..n]);
-    if what == b'u' || what == b'v' || what == b'g' {
-        return run_on_us(&rt, what, rounds);
+    let rounds = lines::rounds_in(&number[..n]);
+    if !with_us {
+        return run(&rt, work, &mut [0; HEAD], &mut [0; 8], rounds);
     }
-    run_on_smallest(&rt, what, rounds)
+    let Some(mut block) = read_file(&rt, "us.block", 65536)? else {
+        return Ok(());
+    };
+    let Some(mut table) = read_file(&rt, "unicode.breaks", 65536)? else {
+        return Ok(());
+    };
+    run(&rt, work, &mut block, &mut table, rounds)
 }

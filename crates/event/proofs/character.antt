@@ -1,4 +1,3 @@
-mod ControlCounts
 pub mod Given
 pub mod Completed
 pub mod CompletedWith

@@ -1,4 +1,3 @@
 mod Keys
 pub mod Events
 pub mod Keyboard
-mod SyntheticEvent

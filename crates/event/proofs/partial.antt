@@ -1,4 +1,3 @@
 mod LayoutKeys
-pub mod Asked
 mod Control
 mod Info

@@ -1,3 +1,2 @@
 pub mod PressKey
 pub mod Written
-pub mod Peeked

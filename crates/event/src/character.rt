@@ -1,6 +1,5 @@
 // What completes a held press at its last character: where its text stands, and what its logical key is.
-ghost use Rattle.std.specs.Prelude.{true, not, ◌&&◌, List, ◌≡◌, ℕ, ◌+◌, ◌≤◌, length, take, get_or};
-ghost use Rattle.std.proofs.Math.Option.{Option};
+ghost use Rattle.std.specs.Prelude.{true, not, ◌&&◌, List, ◌≡◌, ℕ, ◌+◌, ◌≤◌, length, take, get_or, Option};
 ghost use Rattle.area.specs.Pick.{pick};
 ghost use Rattle.segmentation.specs.Layout.{table_of, table_ok};
 ghost use Rattle.lookup.specs.Block.{block_ok};
@@ -21,13 +20,7 @@ use session::{LastKey, LastText};
 fn control_counts(alt_graph: bool, mods: WindowsModifiers) -> bool
     ensures { result ≡ pick alt_graph (mods.control && not mods.alt) mods.control }
 {
-    if !mods.control {
-        return false;
-    }
-    if !alt_graph {
-        return true;
-    }
-    !mods.alt
+    mods.control && !(alt_graph && mods.alt)
 }
 
 // SCOPE 3.11: the text at the last character, by where it stands: in the layout where Control counts, else in the typed units.

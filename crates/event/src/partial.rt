@@ -1,11 +1,11 @@
 // tao's PartialKeyEventInfo::from_message: what a press or a release is, read from layout and key state. The texts of its keys stand in the block.
-ghost use Rattle.std.specs.Prelude.{true, not, ◌&&◌, List, [], ◌≡◌, ℕ};
+ghost use Rattle.std.specs.Prelude.{true, not, ◌&&◌, List, [], ◌≡◌, ℕ, option_map};
 ghost use Rattle.keys.specs.Text.{full, bare_of};
 ghost use Rattle.lookup.specs.Block.{block_ok, maps_of};
 ghost use Rattle.lookup.specs.Codes.{key_code_of};
-ghost use Rattle.lookup.specs.Layout.{get_key, key_in, as_named};
+ghost use Rattle.lookup.specs.Layout.{get_key, key_in};
 ghost use Rattle.lookup.specs.Modifiers.{bits_of};
-ghost use Rattle.session.specs.Builder.{code_as_key, from_message, is_character, mark_of};
+ghost use Rattle.session.specs.Builder.{code_as_key, from_message, is_character, mark_of, plain_key};
 ghost use Rattle.session.specs.Event.{Info};
 ghost use Rattle.session.specs.InBlock.{FitsIn, info_in, InfoIn};
 ghost use Rattle.event.specs.Written.{keyboard_at};
@@ -33,25 +33,35 @@ pub(crate) fn layout_key(
     lookup::keyboard_layout::get_key(block, mods, num_lock_on, vkey, scancode, code)
 }
 
+// The layout's key without modifiers.
+#[tactic(auto, using(lookup::proofs::keyboard_layout::Sets::caps_bits), unfolding(session::specs::Builder::plain_key))]
+pub(crate) fn plain_key(block: &[u8], vkey: u16, scancode: u16) -> LayoutKey
+    requires { block_ok block.now ≡ true }
+    ensures { ((state : List ℕ) → key_in block.now result ≡ plain_key (keyboard_at state block.now) vkey scancode) × FitsIn block.now result }
+{
+    let none = WindowsModifiers {
+        shift: false,
+        control: false,
+        alt: false,
+        caps_lock: false,
+    };
+    layout_key(block, none, false, vkey, scancode)
+}
+
 // ---- presses and releases
 
-// Places of two cases in tao's KeyCode.
-const NUM_LOCK_CODE: u16 = 85;
-
-const PAUSE_CODE: u16 = 121;
-
-// SCOPE 3.7, the place of the key that a code is with Control on: NumLock or Pause; 0 where it is neither.
-fn forced_key(control: bool, code: KeyCode) -> u16
-    ensures { as_named result ≡ code_as_key control code }
+// SCOPE 3.7, the key that a code is with Control on: NumLock or Pause.
+#[tactic(auto, using(crate::proofs::partial::Control::not_forced), unfolding(session::specs::Builder::code_as_key, keys::specs::Number::code_number, keys::specs::Text::full, area::specs::Look::assoc))]
+fn forced_key(control: bool, code: KeyCode) -> Option<Key>
+    ensures { option_map (λ k. full k []) result ≡ code_as_key control code }
 {
     if !control {
-        return 0;
+        return None;
     }
-    let n = keys::key_code::code_number(code);
-    match n {
-        NUM_LOCK_CODE => keys::NUM_LOCK,
-        PAUSE_CODE => keys::PAUSE,
-        _ => 0,
+    match code {
+        KeyCode::NumLock => Some(Key::Named(keys::NUM_LOCK)),
+        KeyCode::Pause => Some(Key::Named(keys::PAUSE)),
+        _ => None,
     }
 }
 
@@ -64,13 +74,10 @@ pub fn from_message(state: &[u8], block: &[u8], vkey: u16, l: KeyLParam) -> Part
     let mods = WindowsModifiers::active_modifiers(state);
     let location = lookup::keyboard::get_location(block, scancode);
     let is_repeat = l.is_repeat;
-    let forced = forced_key(
-        mods.control,
-        lookup::keycode::keycode_from_scancode(scancode),
-    );
-    if forced != 0 {
-        let key = LayoutKey {
-            key: Key::Named(forced),
+    let code = lookup::keycode::keycode_from_scancode(scancode);
+    if let Some(key) = forced_key(mods.control, code) {
+        let forced = LayoutKey {
+            key,
             start: 0,
             len: 0,
         };
@@ -78,20 +85,14 @@ pub fn from_message(state: &[u8], block: &[u8], vkey: u16, l: KeyLParam) -> Part
             scancode,
             is_repeat,
             location,
-            logical_key: key,
-            key_without_modifiers: key,
+            logical_key: forced,
+            key_without_modifiers: forced,
         };
     }
     let num_lock = lookup::keyboard_layout::num_lock_on(state);
     let shown = mods.remove_only_ctrl();
     let logical_key = layout_key(block, shown, num_lock, vkey, scancode);
-    let none = WindowsModifiers {
-        shift: false,
-        control: false,
-        alt: false,
-        caps_lock: false,
-    };
-    let key_without_modifiers = layout_key(block, none, false, vkey, scancode);
+    let key_without_modifiers = plain_key(block, vkey, scancode);
     PartialKeyEventInfo {
         scancode,
         is_repeat,
@@ -102,22 +103,15 @@ pub fn from_message(state: &[u8], block: &[u8], vkey: u16, l: KeyLParam) -> Part
 }
 
 // SCOPE 3.13, whether a typed text may become the logical key: the layout's answer is a character and Control is off.
+#[tactic(auto, unfolding(session::specs::Builder::is_character, keys::specs::Text::full))]
 fn mark_of(key: Key, control: bool) -> bool
     ensures { result ≡ (is_character (full key []) && not control) }
 {
-    if control {
-        return false;
-    }
-    match key {
-        Key::Character => true,
-        Key::Named(_) => false,
-        Key::Unidentified(_) => false,
-        Key::Dead => false,
-        Key::DeadChar(_) => false,
-    }
+    !control && matches!(key, Key::Character)
 }
 
 // The mark that a press is held with at its finish, by the case of its logical key.
+#[tactic(auto, using(crate::proofs::partial::Control::bare_character), unfolding(session::specs::Builder::mark_of))]
 pub fn press_mark(state: &[u8], key: Key) -> bool
     ensures { (block : List ℕ) (n : Info) → bare_of n.logical_key ≡ key → result ≡ mark_of (keyboard_at state.now block) n }
 {

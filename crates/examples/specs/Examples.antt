@@ -1,15 +1,15 @@
 -- Worked examples: calls, one after the other, and what each must answer. Sessions and keyboards are written as records, break tables as
 -- their bytes; a call brings the block that stands for its keyboard.
 -- Assumes nothing.
-use Rattle.std.specs.Prelude.{◌≡◌, ℕ, zero, suc, ◌+◌, ◌-◌, Bool, true, List, [], ◌∷◌, ◌++◌, eqb, length, replicate, pos}
-use Rattle.std.proofs.Math.Option.{Option, some, none}
+use Rattle.std.specs.Prelude.{◌≡◌, ℕ, zero, suc, ◌+◌, ◌-◌, Bool, true, List, [], ◌∷◌, ◌++◌, eqb, length, replicate, pos, Option, Some, None}
 use Rattle.keys.specs.Text.{FullKey}
 use Rattle.keys.specs.declared.KeyLocation.{KeyLocation}
 use Rattle.keys.specs.declared.key_code.KeyCode.{KeyCode}
 use Rattle.lookup.specs.Block.{block_ok}
 use Rattle.lookup.specs.Encode.{block_of}
 use Rattle.session.specs.Limits.{KEYS}
-use Rattle.session.specs.Given.{Message, Inputs, Given, brought, finished}
+use Rattle.session.specs.Given.{Inputs, Given, brought, finished}
+use Rattle.session.specs.declared.Message.{Message}
 use Rattle.session.specs.Event.{Event}
 use Rattle.session.specs.Session.{Session, is_session}
 use Rattle.session.specs.Builder.{Keyboard, keyboard_of}
@@ -74,12 +74,12 @@ result s (bring b r m) = result_by (sort_of m) s m lent
 result s (finish b r t p) = lent
 
 abbrev pub answer_by : Option ℕ → ProcResult → Effect → Answer
-answer_by none r f = answered f.token r f.events
-answer_by (some n) r f = refused n
+answer_by None r f = answered f.token r f.events
+answer_by (Some n) r f = refused n
 
 abbrev pub after_by : Option ℕ → Session → Effect → Session
-after_by none s f = f.after
-after_by (some n) s f = s
+after_by None s f = f.after
+after_by (Some n) s f = s
 
 -- calls one after the other, by what refuses them and what they do
 abbrev pub answers_by : (Session → Step → Option ℕ) → (Session → Step → Effect) → Session → List (Step × Answer) → List Answer

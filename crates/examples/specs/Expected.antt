@@ -2,8 +2,7 @@
 -- tao's last empty queue. Calls that SCOPE 6 refuses were not given to tao: it panics there (5) or has no such limit or test (6 to 11).
 -- A finish with WM_QUIT peeked was given to it as one with nothing peeked (SCOPE 3.17).
 -- Assumes nothing.
-use Rattle.std.specs.Prelude.{ℕ, true, false, List, [], ◌∷◌}
-use Rattle.std.proofs.Math.Option.{some, none}
+use Rattle.std.specs.Prelude.{ℕ, true, false, List, [], ◌∷◌, Some, None}
 use Rattle.keys.specs.Text.{named, character, unidentified, dead, dead_char}
 use Rattle.keys.specs.declared.KeyLocation.TheVariants as at
 use Rattle.keys.specs.declared.NativeKeyCode.TheVariants as native
@@ -180,12 +179,12 @@ digit =
     record {
       start = fresh_session;
       calls =
-          (bring us table (message 0x100 0x31 0x20001), answered (some 0) (Value zero_result) []) ∷
-          (finish us table 0 (some (message 0x102 0x31 0x20001)), answered none lent []) ∷
-          (bring us table (message 0x102 0x31 0x20001), answered (some 0) (Value zero_result) []) ∷
-          (finish us table 0 none, answered none lent (key_event code.Digit1 (character (0x31 ∷ [])) (some (0x31 ∷ [])) at.Standard Pressed false false (some (0x31 ∷ [])) (character (0x31 ∷ [])) ∷ [])) ∷
-          (bring us table (message 0x101 0x31 0xC0020001), answered (some 0) (Value zero_result) []) ∷
-          (finish us table 0 none, answered none lent (key_event code.Digit1 (character (0x31 ∷ [])) none at.Standard Released false false none (character (0x31 ∷ [])) ∷ [])) ∷
+          (bring us table (message 0x100 0x31 0x20001), answered (Some 0) (Value zero_result) []) ∷
+          (finish us table 0 (Some (message 0x102 0x31 0x20001)), answered None lent []) ∷
+          (bring us table (message 0x102 0x31 0x20001), answered (Some 0) (Value zero_result) []) ∷
+          (finish us table 0 None, answered None lent (key_event code.Digit1 (character (0x31 ∷ [])) (Some (0x31 ∷ [])) at.Standard Pressed false false (Some (0x31 ∷ [])) (character (0x31 ∷ [])) ∷ [])) ∷
+          (bring us table (message 0x101 0x31 0xC0020001), answered (Some 0) (Value zero_result) []) ∷
+          (finish us table 0 None, answered None lent (key_event code.Digit1 (character (0x31 ∷ [])) None at.Standard Released false false None (character (0x31 ∷ [])) ∷ [])) ∷
           [];
     }
 
@@ -195,12 +194,12 @@ surrogate_pair =
     record {
       start = fresh_session;
       calls =
-          (bring us table (message 0x100 0x31 0x20001), answered (some 0) (Value zero_result) []) ∷
-          (finish us table 0 (some (message 0x102 0x31 0x20001)), answered none lent []) ∷
-          (bring us table (message 0x102 0xD83D 0x20001), answered (some 0) (Value zero_result) []) ∷
-          (finish us table 0 (some (message 0x102 0x31 0x20001)), answered none lent []) ∷
-          (bring us table (message 0x102 0xDE00 0x20001), answered (some 0) (Value zero_result) []) ∷
-          (finish us table 0 none, answered none lent (key_event code.Digit1 (character (0xF0 ∷ 0x9F ∷ 0x98 ∷ 0x80 ∷ [])) (some (0xF0 ∷ 0x9F ∷ 0x98 ∷ 0x80 ∷ [])) at.Standard Pressed false false (some (0xF0 ∷ 0x9F ∷ 0x98 ∷ 0x80 ∷ [])) (character (0x31 ∷ [])) ∷ [])) ∷
+          (bring us table (message 0x100 0x31 0x20001), answered (Some 0) (Value zero_result) []) ∷
+          (finish us table 0 (Some (message 0x102 0x31 0x20001)), answered None lent []) ∷
+          (bring us table (message 0x102 0xD83D 0x20001), answered (Some 0) (Value zero_result) []) ∷
+          (finish us table 0 (Some (message 0x102 0x31 0x20001)), answered None lent []) ∷
+          (bring us table (message 0x102 0xDE00 0x20001), answered (Some 0) (Value zero_result) []) ∷
+          (finish us table 0 None, answered None lent (key_event code.Digit1 (character (0xF0 ∷ 0x9F ∷ 0x98 ∷ 0x80 ∷ [])) (Some (0xF0 ∷ 0x9F ∷ 0x98 ∷ 0x80 ∷ [])) at.Standard Pressed false false (Some (0xF0 ∷ 0x9F ∷ 0x98 ∷ 0x80 ∷ [])) (character (0x31 ∷ [])) ∷ [])) ∷
           [];
     }
 
@@ -210,15 +209,15 @@ dead_key_and_letter =
     record {
       start = fresh_session;
       calls =
-          (bring german table (message 0x100 0xDD 0xD0001), answered (some 0) (Value zero_result) []) ∷
-          (finish german table 0 (some (message 0x103 0xB4 0xD0001)), answered none lent []) ∷
-          (bring german table (message 0x103 0xB4 0xD0001), answered none (Value zero_result) (key_event code.Equal (dead_char 0xB4) none at.Standard Pressed false false none (character (0xC2 ∷ 0xB4 ∷ [])) ∷ [])) ∷
-          (bring german table (message 0x101 0xDD 0xC00D0001), answered (some 0) (Value zero_result) []) ∷
-          (finish german table 0 none, answered none lent (key_event code.Equal (dead_char 0xB4) none at.Standard Released false false none (character (0xC2 ∷ 0xB4 ∷ [])) ∷ [])) ∷
-          (bring german table (message 0x100 0x45 0x120001), answered (some 0) (Value zero_result) []) ∷
-          (finish german table 0 (some (message 0x102 0x31 0x20001)), answered none lent []) ∷
-          (bring german table (message 0x102 0xE9 0x20001), answered (some 0) (Value zero_result) []) ∷
-          (finish german table 0 none, answered none lent (key_event code.KeyE (character (0xC3 ∷ 0xA9 ∷ [])) (some (0xC3 ∷ 0xA9 ∷ [])) at.Standard Pressed false false (some (0xC3 ∷ 0xA9 ∷ [])) (character (0x65 ∷ [])) ∷ [])) ∷
+          (bring german table (message 0x100 0xDD 0xD0001), answered (Some 0) (Value zero_result) []) ∷
+          (finish german table 0 (Some (message 0x103 0xB4 0xD0001)), answered None lent []) ∷
+          (bring german table (message 0x103 0xB4 0xD0001), answered None (Value zero_result) (key_event code.Equal (dead_char 0xB4) None at.Standard Pressed false false None (character (0xC2 ∷ 0xB4 ∷ [])) ∷ [])) ∷
+          (bring german table (message 0x101 0xDD 0xC00D0001), answered (Some 0) (Value zero_result) []) ∷
+          (finish german table 0 None, answered None lent (key_event code.Equal (dead_char 0xB4) None at.Standard Released false false None (character (0xC2 ∷ 0xB4 ∷ [])) ∷ [])) ∷
+          (bring german table (message 0x100 0x45 0x120001), answered (Some 0) (Value zero_result) []) ∷
+          (finish german table 0 (Some (message 0x102 0x31 0x20001)), answered None lent []) ∷
+          (bring german table (message 0x102 0xE9 0x20001), answered (Some 0) (Value zero_result) []) ∷
+          (finish german table 0 None, answered None lent (key_event code.KeyE (character (0xC3 ∷ 0xA9 ∷ [])) (Some (0xC3 ∷ 0xA9 ∷ [])) at.Standard Pressed false false (Some (0xC3 ∷ 0xA9 ∷ [])) (character (0x65 ∷ [])) ∷ [])) ∷
           [];
     }
 
@@ -228,14 +227,14 @@ alt_gr =
     record {
       start = fresh_session;
       calls =
-          (bring german_alt_gr table (message 0x100 0x11 0x1D0001), answered (some 0) (Value zero_result) []) ∷
-          (finish german_alt_gr table 0 (some (message 0x100 0x12 0x1380001)), answered none lent []) ∷
-          (bring german_alt_gr table (message 0x100 0x12 0x1380001), answered (some 0) (Value zero_result) []) ∷
-          (finish german_alt_gr table 0 none, answered none lent (key_event code.AltRight (named key-AltGraph) none at.Right Pressed false false none (named key-AltGraph) ∷ [])) ∷
-          (bring german_alt_gr table (message 0x105 0x11 0xE01D0001), answered (some 0) (Value zero_result) []) ∷
-          (finish german_alt_gr table 0 (some (message 0x101 0x12 0xC1380001)), answered none lent []) ∷
-          (bring german table (message 0x101 0x12 0xC1380001), answered (some 0) (Value zero_result) []) ∷
-          (finish german table 0 none, answered none lent (key_event code.AltRight (named key-AltGraph) none at.Right Released false false none (named key-AltGraph) ∷ [])) ∷
+          (bring german_alt_gr table (message 0x100 0x11 0x1D0001), answered (Some 0) (Value zero_result) []) ∷
+          (finish german_alt_gr table 0 (Some (message 0x100 0x12 0x1380001)), answered None lent []) ∷
+          (bring german_alt_gr table (message 0x100 0x12 0x1380001), answered (Some 0) (Value zero_result) []) ∷
+          (finish german_alt_gr table 0 None, answered None lent (key_event code.AltRight (named key-AltGraph) None at.Right Pressed false false None (named key-AltGraph) ∷ [])) ∷
+          (bring german_alt_gr table (message 0x105 0x11 0xE01D0001), answered (Some 0) (Value zero_result) []) ∷
+          (finish german_alt_gr table 0 (Some (message 0x101 0x12 0xC1380001)), answered None lent []) ∷
+          (bring german table (message 0x101 0x12 0xC1380001), answered (Some 0) (Value zero_result) []) ∷
+          (finish german table 0 None, answered None lent (key_event code.AltRight (named key-AltGraph) None at.Right Released false false None (named key-AltGraph) ∷ [])) ∷
           [];
     }
 
@@ -245,10 +244,10 @@ focus_inside =
     record {
       start = fresh_session;
       calls =
-          (bring us table (message 0x100 0x31 0x20001), answered (some 0) (Value zero_result) []) ∷
-          (bring us_busy table (message 0x08 0x00 0x00), answered none lent []) ∷
-          (bring us_busy table (message 0x07 0x00 0x00), answered none lent []) ∷
-          (finish us table 0 none, answered none lent (key_event code.Digit1 (unidentified (native.Windows 0x02)) none at.Standard Pressed false false none (character (0x31 ∷ [])) ∷ key_event code.CapsLock (named key-CapsLock) none at.Standard Released false true none (named key-CapsLock) ∷ key_event code.ControlLeft (named key-Control) none at.Left Released false true none (named key-Control) ∷ key_event code.ShiftLeft (named key-Shift) none at.Left Released false true none (named key-Shift) ∷ key_event code.Digit1 (character (0x31 ∷ [])) none at.Standard Released false true none (character (0x31 ∷ [])) ∷ key_event code.KeyE (character (0x45 ∷ [])) none at.Standard Released false true none (character (0x65 ∷ [])) ∷ key_event code.CapsLock (named key-CapsLock) none at.Standard Pressed false true none (named key-CapsLock) ∷ key_event code.Digit1 (character (0x31 ∷ [])) (some (0x31 ∷ [])) at.Standard Pressed false true (some (0x31 ∷ [])) (character (0x31 ∷ [])) ∷ key_event code.KeyE (character (0x45 ∷ [])) (some (0x45 ∷ [])) at.Standard Pressed false true (some (0x45 ∷ [])) (character (0x65 ∷ [])) ∷ key_event code.ControlLeft (named key-Control) none at.Left Pressed false true none (named key-Control) ∷ key_event code.ShiftLeft (named key-Shift) none at.Left Pressed false true none (named key-Shift) ∷ [])) ∷
+          (bring us table (message 0x100 0x31 0x20001), answered (Some 0) (Value zero_result) []) ∷
+          (bring us_busy table (message 0x08 0x00 0x00), answered None lent []) ∷
+          (bring us_busy table (message 0x07 0x00 0x00), answered None lent []) ∷
+          (finish us table 0 None, answered None lent (key_event code.Digit1 (unidentified (native.Windows 0x02)) None at.Standard Pressed false false None (character (0x31 ∷ [])) ∷ key_event code.CapsLock (named key-CapsLock) None at.Standard Released false true None (named key-CapsLock) ∷ key_event code.ControlLeft (named key-Control) None at.Left Released false true None (named key-Control) ∷ key_event code.ShiftLeft (named key-Shift) None at.Left Released false true None (named key-Shift) ∷ key_event code.Digit1 (character (0x31 ∷ [])) None at.Standard Released false true None (character (0x31 ∷ [])) ∷ key_event code.KeyE (character (0x45 ∷ [])) None at.Standard Released false true None (character (0x65 ∷ [])) ∷ key_event code.CapsLock (named key-CapsLock) None at.Standard Pressed false true None (named key-CapsLock) ∷ key_event code.Digit1 (character (0x31 ∷ [])) (Some (0x31 ∷ [])) at.Standard Pressed false true (Some (0x31 ∷ [])) (character (0x31 ∷ [])) ∷ key_event code.KeyE (character (0x45 ∷ [])) (Some (0x45 ∷ [])) at.Standard Pressed false true (Some (0x45 ∷ [])) (character (0x65 ∷ [])) ∷ key_event code.ControlLeft (named key-Control) None at.Left Pressed false true None (named key-Control) ∷ key_event code.ShiftLeft (named key-Shift) None at.Left Pressed false true None (named key-Shift) ∷ [])) ∷
           [];
     }
 
@@ -258,13 +257,13 @@ quit_behind_press =
     record {
       start = fresh_session;
       calls =
-          (bring us table (message 0x100 0x31 0x20001), answered (some 0) (Value zero_result) []) ∷
-          (finish us table 0 (some (message 0x12 0x00 0x00)), answered none lent (key_event code.Digit1 (unidentified (native.Windows 0x02)) none at.Standard Pressed false false none (character (0x31 ∷ [])) ∷ [])) ∷
-          (bring german_alt_gr table (message 0x100 0x11 0x1D0001), answered (some 0) (Value zero_result) []) ∷
-          (finish german_alt_gr table 0 (some (message 0x12 0x12 0x1380001)), answered none lent (key_event code.ControlLeft (named key-Control) none at.Left Pressed false false none (named key-Control) ∷ [])) ∷
-          (bring us table (message 0x100 0x31 0x20001), answered (some 0) (Value zero_result) []) ∷
-          (finish us table 0 (some (message 0x10012 0x00 0x00)), answered none lent []) ∷
-          (bring us table (message 0x103 0xB4 0xD0001), answered none (Value zero_result) (key_event code.Digit1 (unidentified (native.Windows 0x02)) none at.Standard Pressed false false none (character (0x31 ∷ [])) ∷ [])) ∷
+          (bring us table (message 0x100 0x31 0x20001), answered (Some 0) (Value zero_result) []) ∷
+          (finish us table 0 (Some (message 0x12 0x00 0x00)), answered None lent (key_event code.Digit1 (unidentified (native.Windows 0x02)) None at.Standard Pressed false false None (character (0x31 ∷ [])) ∷ [])) ∷
+          (bring german_alt_gr table (message 0x100 0x11 0x1D0001), answered (Some 0) (Value zero_result) []) ∷
+          (finish german_alt_gr table 0 (Some (message 0x12 0x12 0x1380001)), answered None lent (key_event code.ControlLeft (named key-Control) None at.Left Pressed false false None (named key-Control) ∷ [])) ∷
+          (bring us table (message 0x100 0x31 0x20001), answered (Some 0) (Value zero_result) []) ∷
+          (finish us table 0 (Some (message 0x10012 0x00 0x00)), answered None lent []) ∷
+          (bring us table (message 0x103 0xB4 0xD0001), answered None (Value zero_result) (key_event code.Digit1 (unidentified (native.Windows 0x02)) None at.Standard Pressed false false None (character (0x31 ∷ [])) ∷ [])) ∷
           [];
     }
 
@@ -274,10 +273,10 @@ quit_behind_release =
     record {
       start = fresh_session;
       calls =
-          (bring german_alt_gr table (message 0x101 0x11 0xC01D0001), answered (some 0) (Value zero_result) []) ∷
-          (finish german_alt_gr table 0 (some (message 0x12 0x12 0x1380001)), answered none lent (key_event code.ControlLeft (named key-Control) none at.Left Released false false none (named key-Control) ∷ [])) ∷
-          (bring german_alt_gr table (message 0x101 0x11 0xC01D0001), answered (some 0) (Value zero_result) []) ∷
-          (finish german_alt_gr table 0 (some (message 0x10012 0x12 0x1380001)), answered none lent []) ∷
+          (bring german_alt_gr table (message 0x101 0x11 0xC01D0001), answered (Some 0) (Value zero_result) []) ∷
+          (finish german_alt_gr table 0 (Some (message 0x12 0x12 0x1380001)), answered None lent (key_event code.ControlLeft (named key-Control) None at.Left Released false false None (named key-Control) ∷ [])) ∷
+          (bring german_alt_gr table (message 0x101 0x11 0xC01D0001), answered (Some 0) (Value zero_result) []) ∷
+          (finish german_alt_gr table 0 (Some (message 0x10012 0x12 0x1380001)), answered None lent []) ∷
           [];
     }
 
@@ -287,16 +286,16 @@ quit_behind_character =
     record {
       start = fresh_session;
       calls =
-          (bring us table (message 0x100 0x31 0x20001), answered (some 0) (Value zero_result) []) ∷
-          (finish us table 0 (some (message 0x102 0x31 0x20001)), answered none lent []) ∷
-          (bring us table (message 0x102 0x31 0x20001), answered (some 0) (Value zero_result) []) ∷
-          (finish us table 0 (some (message 0x12 0x102 0x20001)), answered none lent (key_event code.Digit1 (character (0x31 ∷ [])) (some (0x31 ∷ [])) at.Standard Pressed false false (some (0x31 ∷ [])) (character (0x31 ∷ [])) ∷ [])) ∷
-          (bring us table (message 0x100 0x0D 0x1C0001), answered (some 0) (Value zero_result) []) ∷
-          (bring us table (message 0x100 0x31 0x20001), answered (some 1) (Value zero_result) []) ∷
-          (finish us table 1 (some (message 0x102 0x31 0x20001)), answered none lent []) ∷
-          (bring us table (message 0x102 0x31 0x20001), answered (some 2) (Value zero_result) []) ∷
-          (finish us table 2 (some (message 0x12 0x00 0x00)), answered none lent []) ∷
-          (finish us table 0 (some (message 0x12 0x00 0x00)), answered none lent (key_event code.Enter (named key-Enter) none at.Standard Pressed false false none (named key-Enter) ∷ key_event code.Digit1 (character (0x31 ∷ [])) (some (0x31 ∷ [])) at.Standard Pressed false false (some (0x31 ∷ [])) (character (0x31 ∷ [])) ∷ [])) ∷
+          (bring us table (message 0x100 0x31 0x20001), answered (Some 0) (Value zero_result) []) ∷
+          (finish us table 0 (Some (message 0x102 0x31 0x20001)), answered None lent []) ∷
+          (bring us table (message 0x102 0x31 0x20001), answered (Some 0) (Value zero_result) []) ∷
+          (finish us table 0 (Some (message 0x12 0x102 0x20001)), answered None lent (key_event code.Digit1 (character (0x31 ∷ [])) (Some (0x31 ∷ [])) at.Standard Pressed false false (Some (0x31 ∷ [])) (character (0x31 ∷ [])) ∷ [])) ∷
+          (bring us table (message 0x100 0x0D 0x1C0001), answered (Some 0) (Value zero_result) []) ∷
+          (bring us table (message 0x100 0x31 0x20001), answered (Some 1) (Value zero_result) []) ∷
+          (finish us table 1 (Some (message 0x102 0x31 0x20001)), answered None lent []) ∷
+          (bring us table (message 0x102 0x31 0x20001), answered (Some 2) (Value zero_result) []) ∷
+          (finish us table 2 (Some (message 0x12 0x00 0x00)), answered None lent []) ∷
+          (finish us table 0 (Some (message 0x12 0x00 0x00)), answered None lent (key_event code.Enter (named key-Enter) None at.Standard Pressed false false None (named key-Enter) ∷ key_event code.Digit1 (character (0x31 ∷ [])) (Some (0x31 ∷ [])) at.Standard Pressed false false (Some (0x31 ∷ [])) (character (0x31 ∷ [])) ∷ [])) ∷
           [];
     }
 
@@ -306,10 +305,10 @@ enter =
     record {
       start = fresh_session;
       calls =
-          (bring us table (message 0x100 0x0D 0x1C0001), answered (some 0) (Value zero_result) []) ∷
-          (finish us table 0 (some (message 0x102 0x31 0x20001)), answered none lent []) ∷
-          (bring us table (message 0x102 0x0D 0x20001), answered (some 0) (Value zero_result) []) ∷
-          (finish us table 0 none, answered none lent (key_event code.Enter (named key-Enter) (some (0x0D ∷ [])) at.Standard Pressed false false (some (0x0D ∷ [])) (named key-Enter) ∷ [])) ∷
+          (bring us table (message 0x100 0x0D 0x1C0001), answered (Some 0) (Value zero_result) []) ∷
+          (finish us table 0 (Some (message 0x102 0x31 0x20001)), answered None lent []) ∷
+          (bring us table (message 0x102 0x0D 0x20001), answered (Some 0) (Value zero_result) []) ∷
+          (finish us table 0 None, answered None lent (key_event code.Enter (named key-Enter) (Some (0x0D ∷ [])) at.Standard Pressed false false (Some (0x0D ∷ [])) (named key-Enter) ∷ [])) ∷
           [];
     }
 
@@ -319,10 +318,10 @@ dead_key_and_text =
     record {
       start = fresh_session;
       calls =
-          (bring german table (message 0x100 0xDD 0xD0001), answered (some 0) (Value zero_result) []) ∷
-          (finish german table 0 (some (message 0x102 0x31 0x20001)), answered none lent []) ∷
-          (bring german table (message 0x102 0x27 0x20001), answered (some 0) (Value zero_result) []) ∷
-          (finish german table 0 none, answered none lent (key_event code.Equal (dead_char 0xB4) (some (0x27 ∷ [])) at.Standard Pressed false false (some (0x27 ∷ [])) (character (0xC2 ∷ 0xB4 ∷ [])) ∷ [])) ∷
+          (bring german table (message 0x100 0xDD 0xD0001), answered (Some 0) (Value zero_result) []) ∷
+          (finish german table 0 (Some (message 0x102 0x31 0x20001)), answered None lent []) ∷
+          (bring german table (message 0x102 0x27 0x20001), answered (Some 0) (Value zero_result) []) ∷
+          (finish german table 0 None, answered None lent (key_event code.Equal (dead_char 0xB4) (Some (0x27 ∷ [])) at.Standard Pressed false false (Some (0x27 ∷ [])) (character (0xC2 ∷ 0xB4 ∷ [])) ∷ [])) ∷
           [];
     }
 
@@ -332,10 +331,10 @@ control_at_press =
     record {
       start = fresh_session;
       calls =
-          (bring us table (message 0x100 0x31 0x20001), answered (some 0) (Value zero_result) []) ∷
-          (finish us_control table 0 (some (message 0x102 0x31 0x20001)), answered none lent []) ∷
-          (bring us table (message 0x102 0x78 0x20001), answered (some 0) (Value zero_result) []) ∷
-          (finish us table 0 none, answered none lent (key_event code.Digit1 (character (0x31 ∷ [])) (some (0x78 ∷ [])) at.Standard Pressed false false (some (0x78 ∷ [])) (character (0x31 ∷ [])) ∷ [])) ∷
+          (bring us table (message 0x100 0x31 0x20001), answered (Some 0) (Value zero_result) []) ∷
+          (finish us_control table 0 (Some (message 0x102 0x31 0x20001)), answered None lent []) ∷
+          (bring us table (message 0x102 0x78 0x20001), answered (Some 0) (Value zero_result) []) ∷
+          (finish us table 0 None, answered None lent (key_event code.Digit1 (character (0x31 ∷ [])) (Some (0x78 ∷ [])) at.Standard Pressed false false (Some (0x78 ∷ [])) (character (0x31 ∷ [])) ∷ [])) ∷
           [];
     }
 
@@ -345,10 +344,10 @@ control_at_character =
     record {
       start = fresh_session;
       calls =
-          (bring us table (message 0x100 0x31 0x20001), answered (some 0) (Value zero_result) []) ∷
-          (finish us table 0 (some (message 0x102 0x31 0x20001)), answered none lent []) ∷
-          (bring us table (message 0x102 0x11 0x20001), answered (some 0) (Value zero_result) []) ∷
-          (finish us_control table 0 none, answered none lent (key_event code.Digit1 (character (0x31 ∷ [])) (some (0x31 ∷ [])) at.Standard Pressed false false (some (0x11 ∷ [])) (character (0x31 ∷ [])) ∷ [])) ∷
+          (bring us table (message 0x100 0x31 0x20001), answered (Some 0) (Value zero_result) []) ∷
+          (finish us table 0 (Some (message 0x102 0x31 0x20001)), answered None lent []) ∷
+          (bring us table (message 0x102 0x11 0x20001), answered (Some 0) (Value zero_result) []) ∷
+          (finish us_control table 0 None, answered None lent (key_event code.Digit1 (character (0x31 ∷ [])) (Some (0x31 ∷ [])) at.Standard Pressed false false (Some (0x11 ∷ [])) (character (0x31 ∷ [])) ∷ [])) ∷
           [];
     }
 
@@ -358,8 +357,8 @@ bare_control =
     record {
       start = fresh_session;
       calls =
-          (bring german table (message 0x100 0x45 0x120001), answered (some 0) (Value zero_result) []) ∷
-          (finish german_alt_gr table 0 none, answered none lent (key_event code.KeyE (character (0xE2 ∷ 0x82 ∷ 0xAC ∷ [])) none at.Standard Pressed false false none (character (0x65 ∷ [])) ∷ [])) ∷
+          (bring german table (message 0x100 0x45 0x120001), answered (Some 0) (Value zero_result) []) ∷
+          (finish german_alt_gr table 0 None, answered None lent (key_event code.KeyE (character (0xE2 ∷ 0x82 ∷ 0xAC ∷ [])) None at.Standard Pressed false false None (character (0x65 ∷ [])) ∷ [])) ∷
           [];
     }
 
@@ -369,10 +368,10 @@ alt_gr_text =
     record {
       start = fresh_session;
       calls =
-          (bring german_alt_gr table (message 0x100 0x45 0x120001), answered (some 0) (Value zero_result) []) ∷
-          (finish german_alt_gr table 0 (some (message 0x102 0x31 0x20001)), answered none lent []) ∷
-          (bring german_alt_gr table (message 0x102 0xE9 0x20001), answered (some 0) (Value zero_result) []) ∷
-          (finish german_alt_gr table 0 none, answered none lent (key_event code.KeyE (character (0xE2 ∷ 0x82 ∷ 0xAC ∷ [])) (some (0xC3 ∷ 0xA9 ∷ [])) at.Standard Pressed false false (some (0xC3 ∷ 0xA9 ∷ [])) (character (0x65 ∷ [])) ∷ [])) ∷
+          (bring german_alt_gr table (message 0x100 0x45 0x120001), answered (Some 0) (Value zero_result) []) ∷
+          (finish german_alt_gr table 0 (Some (message 0x102 0x31 0x20001)), answered None lent []) ∷
+          (bring german_alt_gr table (message 0x102 0xE9 0x20001), answered (Some 0) (Value zero_result) []) ∷
+          (finish german_alt_gr table 0 None, answered None lent (key_event code.KeyE (character (0xE2 ∷ 0x82 ∷ 0xAC ∷ [])) (Some (0xC3 ∷ 0xA9 ∷ [])) at.Standard Pressed false false (Some (0xC3 ∷ 0xA9 ∷ [])) (character (0x65 ∷ [])) ∷ [])) ∷
           [];
     }
 
@@ -382,10 +381,10 @@ unpaired =
     record {
       start = fresh_session;
       calls =
-          (bring us table (message 0x100 0x31 0x20001), answered (some 0) (Value zero_result) []) ∷
-          (finish us table 0 (some (message 0x102 0x31 0x20001)), answered none lent []) ∷
-          (bring us table (message 0x102 0xD83D 0x20001), answered (some 0) (Value zero_result) []) ∷
-          (finish us table 0 none, answered none lent (key_event code.Digit1 (unidentified (native.Windows 0x02)) none at.Standard Pressed false false none (character (0x31 ∷ [])) ∷ [])) ∷
+          (bring us table (message 0x100 0x31 0x20001), answered (Some 0) (Value zero_result) []) ∷
+          (finish us table 0 (Some (message 0x102 0x31 0x20001)), answered None lent []) ∷
+          (bring us table (message 0x102 0xD83D 0x20001), answered (Some 0) (Value zero_result) []) ∷
+          (finish us table 0 None, answered None lent (key_event code.Digit1 (unidentified (native.Windows 0x02)) None at.Standard Pressed false false None (character (0x31 ∷ [])) ∷ [])) ∷
           [];
     }
 
@@ -395,12 +394,12 @@ unpaired_behind_letter =
     record {
       start = fresh_session;
       calls =
-          (bring us table (message 0x100 0x31 0x20001), answered (some 0) (Value zero_result) []) ∷
-          (finish us table 0 (some (message 0x102 0x31 0x20001)), answered none lent []) ∷
-          (bring us table (message 0x102 0x61 0x20001), answered (some 0) (Value zero_result) []) ∷
-          (finish us table 0 (some (message 0x102 0x31 0x20001)), answered none lent []) ∷
-          (bring us table (message 0x102 0xD83D 0x20001), answered (some 0) (Value zero_result) []) ∷
-          (finish us table 0 none, answered none lent (key_event code.Digit1 (unidentified (native.Windows 0x02)) none at.Standard Pressed false false none (character (0x31 ∷ [])) ∷ [])) ∷
+          (bring us table (message 0x100 0x31 0x20001), answered (Some 0) (Value zero_result) []) ∷
+          (finish us table 0 (Some (message 0x102 0x31 0x20001)), answered None lent []) ∷
+          (bring us table (message 0x102 0x61 0x20001), answered (Some 0) (Value zero_result) []) ∷
+          (finish us table 0 (Some (message 0x102 0x31 0x20001)), answered None lent []) ∷
+          (bring us table (message 0x102 0xD83D 0x20001), answered (Some 0) (Value zero_result) []) ∷
+          (finish us table 0 None, answered None lent (key_event code.Digit1 (unidentified (native.Windows 0x02)) None at.Standard Pressed false false None (character (0x31 ∷ [])) ∷ [])) ∷
           [];
     }
 
@@ -410,11 +409,11 @@ dead_character_behind_text =
     record {
       start = fresh_session;
       calls =
-          (bring us table (message 0x100 0x31 0x20001), answered (some 0) (Value zero_result) []) ∷
-          (finish us table 0 (some (message 0x102 0x31 0x20001)), answered none lent []) ∷
-          (bring us table (message 0x102 0x61 0x20001), answered (some 0) (Value zero_result) []) ∷
-          (finish us table 0 (some (message 0x102 0x31 0x20001)), answered none lent []) ∷
-          (bring us table (message 0x103 0xB4 0xD0001), answered none (Value zero_result) (key_event code.Digit1 (unidentified (native.Windows 0x02)) none at.Standard Pressed false false (some (0x61 ∷ [])) (character (0x31 ∷ [])) ∷ [])) ∷
+          (bring us table (message 0x100 0x31 0x20001), answered (Some 0) (Value zero_result) []) ∷
+          (finish us table 0 (Some (message 0x102 0x31 0x20001)), answered None lent []) ∷
+          (bring us table (message 0x102 0x61 0x20001), answered (Some 0) (Value zero_result) []) ∷
+          (finish us table 0 (Some (message 0x102 0x31 0x20001)), answered None lent []) ∷
+          (bring us table (message 0x103 0xB4 0xD0001), answered None (Value zero_result) (key_event code.Digit1 (unidentified (native.Windows 0x02)) None at.Standard Pressed false false (Some (0x61 ∷ [])) (character (0x31 ∷ [])) ∷ [])) ∷
           [];
     }
 
@@ -424,8 +423,8 @@ dead_without_character =
     record {
       start = fresh_session;
       calls =
-          (bring german table (message 0x100 0xDE 0x280001), answered (some 0) (Value zero_result) []) ∷
-          (finish german table 0 none, answered none lent (key_event code.Quote dead none at.Standard Pressed false false none (unidentified native.Unidentified) ∷ [])) ∷
+          (bring german table (message 0x100 0xDE 0x280001), answered (Some 0) (Value zero_result) []) ∷
+          (finish german table 0 None, answered None lent (key_event code.Quote dead None at.Standard Pressed false false None (unidentified native.Unidentified) ∷ [])) ∷
           [];
     }
 
@@ -435,7 +434,7 @@ dead_at_focus =
     record {
       start = fresh_session;
       calls =
-          (bring german_typing table (message 0x07 0x00 0x00), answered none lent (key_event code.Equal (dead_char 0xB4) none at.Standard Pressed false true none (dead_char 0xB4) ∷ key_event code.Quote dead none at.Standard Pressed false true none dead ∷ [])) ∷
+          (bring german_typing table (message 0x07 0x00 0x00), answered None lent (key_event code.Equal (dead_char 0xB4) None at.Standard Pressed false true None (dead_char 0xB4) ∷ key_event code.Quote dead None at.Standard Pressed false true None dead ∷ [])) ∷
           [];
     }
 
@@ -445,10 +444,10 @@ no_text =
     record {
       start = fresh_session;
       calls =
-          (bring us table (message 0x100 0x31 0x20001), answered (some 0) (Value zero_result) []) ∷
-          (finish us table 0 none, answered none lent (key_event code.Digit1 (unidentified (native.Windows 0x02)) none at.Standard Pressed false false none (character (0x31 ∷ [])) ∷ [])) ∷
-          (bring us table (message 0x100 0x31 0x01), answered (some 0) (Value zero_result) []) ∷
-          (finish us table 0 none, answered none lent (key_event code.Digit1 (unidentified (native.Windows 0x02)) none at.Standard Pressed false false none (character (0x31 ∷ [])) ∷ [])) ∷
+          (bring us table (message 0x100 0x31 0x20001), answered (Some 0) (Value zero_result) []) ∷
+          (finish us table 0 None, answered None lent (key_event code.Digit1 (unidentified (native.Windows 0x02)) None at.Standard Pressed false false None (character (0x31 ∷ [])) ∷ [])) ∷
+          (bring us table (message 0x100 0x31 0x01), answered (Some 0) (Value zero_result) []) ∷
+          (finish us table 0 None, answered None lent (key_event code.Digit1 (unidentified (native.Windows 0x02)) None at.Standard Pressed false false None (character (0x31 ∷ [])) ∷ [])) ∷
           [];
     }
 
@@ -458,8 +457,8 @@ listed_unidentified =
     record {
       start = fresh_session;
       calls =
-          (bring odd table (message 0x100 0x31 0x20001), answered (some 0) (Value zero_result) []) ∷
-          (finish odd table 0 none, answered none lent (key_event code.Digit1 (unidentified (native.Windows 0x7F)) none at.Standard Pressed false false none (unidentified (native.Windows 0x7F)) ∷ [])) ∷
+          (bring odd table (message 0x100 0x31 0x20001), answered (Some 0) (Value zero_result) []) ∷
+          (finish odd table 0 None, answered None lent (key_event code.Digit1 (unidentified (native.Windows 0x7F)) None at.Standard Pressed false false None (unidentified (native.Windows 0x7F)) ∷ [])) ∷
           [];
     }
 
@@ -469,8 +468,8 @@ release_key =
     record {
       start = fresh_session;
       calls =
-          (bring us_shift table (message 0x101 0x31 0xC0020001), answered (some 0) (Value zero_result) []) ∷
-          (finish us_shift table 0 none, answered none lent (key_event code.Digit1 (character (0x21 ∷ [])) none at.Standard Released false false none (character (0x31 ∷ [])) ∷ [])) ∷
+          (bring us_shift table (message 0x101 0x31 0xC0020001), answered (Some 0) (Value zero_result) []) ∷
+          (finish us_shift table 0 None, answered None lent (key_event code.Digit1 (character (0x21 ∷ [])) None at.Standard Released false false None (character (0x31 ∷ [])) ∷ [])) ∷
           [];
     }
 
@@ -480,9 +479,9 @@ toggles_at_focus =
     record {
       start = fresh_session;
       calls =
-          (bring us_shift table (message 0x07 0x00 0x00), answered none lent (key_event code.Digit1 (character (0x31 ∷ [])) (some (0x31 ∷ [])) at.Standard Pressed false true (some (0x31 ∷ [])) (character (0x31 ∷ [])) ∷ key_event code.ShiftLeft (named key-Shift) none at.Left Pressed false true none (named key-Shift) ∷ [])) ∷
-          (bring us_busy table (message 0x07 0x00 0x00), answered none lent (key_event code.CapsLock (named key-CapsLock) none at.Standard Pressed false true none (named key-CapsLock) ∷ key_event code.Digit1 (character (0x31 ∷ [])) (some (0x31 ∷ [])) at.Standard Pressed false true (some (0x31 ∷ [])) (character (0x31 ∷ [])) ∷ key_event code.KeyE (character (0x45 ∷ [])) (some (0x45 ∷ [])) at.Standard Pressed false true (some (0x45 ∷ [])) (character (0x65 ∷ [])) ∷ key_event code.ControlLeft (named key-Control) none at.Left Pressed false true none (named key-Control) ∷ key_event code.ShiftLeft (named key-Shift) none at.Left Pressed false true none (named key-Shift) ∷ [])) ∷
-          (bring us_busy table (message 0x08 0x00 0x00), answered none lent (key_event code.CapsLock (named key-CapsLock) none at.Standard Released false true none (named key-CapsLock) ∷ key_event code.ControlLeft (named key-Control) none at.Left Released false true none (named key-Control) ∷ key_event code.ShiftLeft (named key-Shift) none at.Left Released false true none (named key-Shift) ∷ key_event code.Digit1 (character (0x31 ∷ [])) none at.Standard Released false true none (character (0x31 ∷ [])) ∷ key_event code.KeyE (character (0x45 ∷ [])) none at.Standard Released false true none (character (0x65 ∷ [])) ∷ [])) ∷
+          (bring us_shift table (message 0x07 0x00 0x00), answered None lent (key_event code.Digit1 (character (0x31 ∷ [])) (Some (0x31 ∷ [])) at.Standard Pressed false true (Some (0x31 ∷ [])) (character (0x31 ∷ [])) ∷ key_event code.ShiftLeft (named key-Shift) None at.Left Pressed false true None (named key-Shift) ∷ [])) ∷
+          (bring us_busy table (message 0x07 0x00 0x00), answered None lent (key_event code.CapsLock (named key-CapsLock) None at.Standard Pressed false true None (named key-CapsLock) ∷ key_event code.Digit1 (character (0x31 ∷ [])) (Some (0x31 ∷ [])) at.Standard Pressed false true (Some (0x31 ∷ [])) (character (0x31 ∷ [])) ∷ key_event code.KeyE (character (0x45 ∷ [])) (Some (0x45 ∷ [])) at.Standard Pressed false true (Some (0x45 ∷ [])) (character (0x65 ∷ [])) ∷ key_event code.ControlLeft (named key-Control) None at.Left Pressed false true None (named key-Control) ∷ key_event code.ShiftLeft (named key-Shift) None at.Left Pressed false true None (named key-Shift) ∷ [])) ∷
+          (bring us_busy table (message 0x08 0x00 0x00), answered None lent (key_event code.CapsLock (named key-CapsLock) None at.Standard Released false true None (named key-CapsLock) ∷ key_event code.ControlLeft (named key-Control) None at.Left Released false true None (named key-Control) ∷ key_event code.ShiftLeft (named key-Shift) None at.Left Released false true None (named key-Shift) ∷ key_event code.Digit1 (character (0x31 ∷ [])) None at.Standard Released false true None (character (0x31 ∷ [])) ∷ key_event code.KeyE (character (0x45 ∷ [])) None at.Standard Released false true None (character (0x65 ∷ [])) ∷ [])) ∷
           [];
     }
 
@@ -492,11 +491,11 @@ pause_at_focus =
     record {
       start = fresh_session;
       calls =
-          (bring us_cancel table (message 0x07 0x00 0x00), answered none lent (key_event code.Pause (unidentified (native.Windows 0xE046)) none at.Standard Pressed false true none (unidentified (native.Windows 0xE046)) ∷ key_event code.ControlLeft (named key-Control) none at.Left Pressed false true none (named key-Control) ∷ [])) ∷
-          (bring us_cancel table (message 0x100 0x03 0x1460001), answered (some 0) (Value zero_result) []) ∷
-          (finish us_cancel table 0 none, answered none lent (key_event code.Pause (named key-Pause) none at.Standard Pressed false false none (named key-Pause) ∷ [])) ∷
-          (bring us_cancel table (message 0x101 0x03 0xC1460001), answered (some 0) (Value zero_result) []) ∷
-          (finish us_cancel table 0 none, answered none lent (key_event code.Pause (named key-Pause) none at.Standard Released false false none (named key-Pause) ∷ [])) ∷
+          (bring us_cancel table (message 0x07 0x00 0x00), answered None lent (key_event code.Pause (unidentified (native.Windows 0xE046)) None at.Standard Pressed false true None (unidentified (native.Windows 0xE046)) ∷ key_event code.ControlLeft (named key-Control) None at.Left Pressed false true None (named key-Control) ∷ [])) ∷
+          (bring us_cancel table (message 0x100 0x03 0x1460001), answered (Some 0) (Value zero_result) []) ∷
+          (finish us_cancel table 0 None, answered None lent (key_event code.Pause (named key-Pause) None at.Standard Pressed false false None (named key-Pause) ∷ [])) ∷
+          (bring us_cancel table (message 0x101 0x03 0xC1460001), answered (Some 0) (Value zero_result) []) ∷
+          (finish us_cancel table 0 None, answered None lent (key_event code.Pause (named key-Pause) None at.Standard Released false false None (named key-Pause) ∷ [])) ∷
           [];
     }
 
@@ -506,9 +505,9 @@ num-lock =
     record {
       start = fresh_session;
       calls =
-          (bring us_num_lock table (message 0x101 0x60 0xC0520001), answered (some 0) (Value zero_result) []) ∷
-          (finish us_num_lock table 0 none, answered none lent (key_event code.Numpad0 (character (0x30 ∷ [])) none at.Numpad Released false false none (named key-Insert) ∷ [])) ∷
-          (bring us_num_lock table (message 0x07 0x00 0x00), answered none lent (key_event code.Numpad0 (character (0x30 ∷ [])) (some (0x30 ∷ [])) at.Numpad Pressed false true (some (0x30 ∷ [])) (named key-Insert) ∷ [])) ∷
+          (bring us_num_lock table (message 0x101 0x60 0xC0520001), answered (Some 0) (Value zero_result) []) ∷
+          (finish us_num_lock table 0 None, answered None lent (key_event code.Numpad0 (character (0x30 ∷ [])) None at.Numpad Released false false None (named key-Insert) ∷ [])) ∷
+          (bring us_num_lock table (message 0x07 0x00 0x00), answered None lent (key_event code.Numpad0 (character (0x30 ∷ [])) (Some (0x30 ∷ [])) at.Numpad Pressed false true (Some (0x30 ∷ [])) (named key-Insert) ∷ [])) ∷
           [];
     }
 
@@ -518,8 +517,8 @@ page_e1 =
     record {
       start = fresh_session;
       calls =
-          (bring odd table (message 0x101 0x0D 0xC0000001), answered (some 0) (Value zero_result) []) ∷
-          (finish odd table 0 none, answered none lent (key_event (code.Unidentified (native.Windows 0xE11C)) (named key-Enter) none at.Numpad Released false false none (named key-Enter) ∷ [])) ∷
+          (bring odd table (message 0x101 0x0D 0xC0000001), answered (Some 0) (Value zero_result) []) ∷
+          (finish odd table 0 None, answered None lent (key_event (code.Unidentified (native.Windows 0xE11C)) (named key-Enter) None at.Numpad Released false false None (named key-Enter) ∷ [])) ∷
           [];
     }
 
@@ -529,16 +528,16 @@ menu_and_above =
     record {
       start = fresh_session;
       calls =
-          (bring odd table (message 0x101 0x12 0xC0380001), answered (some 0) (Value zero_result) []) ∷
-          (finish odd table 0 none, answered none lent (key_event code.AltLeft (character (0x6D ∷ [])) none at.Standard Released false false none (character (0x6D ∷ [])) ∷ [])) ∷
-          (bring odd table (message 0x101 0x112 0xC0380001), answered (some 0) (Value zero_result) []) ∷
-          (finish odd table 0 none, answered none lent (key_event code.AltLeft (unidentified (native.Windows 0x38)) none at.Standard Released false false none (unidentified (native.Windows 0x38)) ∷ [])) ∷
-          (bring odd table (message 0x101 0x131 0xC0020001), answered (some 0) (Value zero_result) []) ∷
-          (finish odd table 0 none, answered none lent (key_event code.Digit1 (character (0x31 ∷ [])) none at.Standard Released false false none (character (0x31 ∷ [])) ∷ [])) ∷
-          (bring odd table (message 0x101 0x10031 0xC0000001), answered (some 0) (Value zero_result) []) ∷
-          (finish odd table 0 none, answered none lent (key_event code.Digit1 (unidentified (native.Windows 0x7F)) none at.Standard Released false false none (unidentified (native.Windows 0x7F)) ∷ [])) ∷
-          (bring odd table (message 0x101 0x131 0xC0000001), answered (some 0) (Value zero_result) []) ∷
-          (finish odd table 0 none, answered none lent (key_event (code.Unidentified (native.Windows 0x00)) (unidentified (native.Windows 0x00)) none at.Standard Released false false none (unidentified (native.Windows 0x00)) ∷ [])) ∷
+          (bring odd table (message 0x101 0x12 0xC0380001), answered (Some 0) (Value zero_result) []) ∷
+          (finish odd table 0 None, answered None lent (key_event code.AltLeft (character (0x6D ∷ [])) None at.Standard Released false false None (character (0x6D ∷ [])) ∷ [])) ∷
+          (bring odd table (message 0x101 0x112 0xC0380001), answered (Some 0) (Value zero_result) []) ∷
+          (finish odd table 0 None, answered None lent (key_event code.AltLeft (unidentified (native.Windows 0x38)) None at.Standard Released false false None (unidentified (native.Windows 0x38)) ∷ [])) ∷
+          (bring odd table (message 0x101 0x131 0xC0020001), answered (Some 0) (Value zero_result) []) ∷
+          (finish odd table 0 None, answered None lent (key_event code.Digit1 (character (0x31 ∷ [])) None at.Standard Released false false None (character (0x31 ∷ [])) ∷ [])) ∷
+          (bring odd table (message 0x101 0x10031 0xC0000001), answered (Some 0) (Value zero_result) []) ∷
+          (finish odd table 0 None, answered None lent (key_event code.Digit1 (unidentified (native.Windows 0x7F)) None at.Standard Released false false None (unidentified (native.Windows 0x7F)) ∷ [])) ∷
+          (bring odd table (message 0x101 0x131 0xC0000001), answered (Some 0) (Value zero_result) []) ∷
+          (finish odd table 0 None, answered None lent (key_event (code.Unidentified (native.Windows 0x00)) (unidentified (native.Windows 0x00)) None at.Standard Released false false None (unidentified (native.Windows 0x00)) ∷ [])) ∷
           [];
     }
 
@@ -548,8 +547,8 @@ unlisted_code =
     record {
       start = fresh_session;
       calls =
-          (bring odd table (message 0x101 0x07 0xC07F0001), answered (some 0) (Value zero_result) []) ∷
-          (finish odd table 0 none, answered none lent (key_event (code.Unidentified (native.Windows 0x7F)) (character (0xC3 ∷ 0x9F ∷ [])) none at.Standard Released false false none (character (0xC3 ∷ 0x9F ∷ [])) ∷ [])) ∷
+          (bring odd table (message 0x101 0x07 0xC07F0001), answered (Some 0) (Value zero_result) []) ∷
+          (finish odd table 0 None, answered None lent (key_event (code.Unidentified (native.Windows 0x7F)) (character (0xC3 ∷ 0x9F ∷ [])) None at.Standard Released false false None (character (0xC3 ∷ 0x9F ∷ [])) ∷ [])) ∷
           [];
     }
 
@@ -559,10 +558,10 @@ wide_surrogate =
     record {
       start = fresh_session;
       calls =
-          (bring us table (message 0x100 0x31 0x20001), answered (some 0) (Value zero_result) []) ∷
-          (finish us table 0 (some (message 0x102 0x31 0x20001)), answered none lent []) ∷
-          (bring us table (message 0x102 0x10000D800 0x20001), answered (some 0) (Value zero_result) []) ∷
-          (finish us table 0 none, answered none lent (key_event code.Digit1 (character (0x31 ∷ [])) (some (0x00 ∷ 0x00 ∷ [])) at.Standard Pressed false false (some (0x00 ∷ 0x00 ∷ [])) (character (0x31 ∷ [])) ∷ [])) ∷
+          (bring us table (message 0x100 0x31 0x20001), answered (Some 0) (Value zero_result) []) ∷
+          (finish us table 0 (Some (message 0x102 0x31 0x20001)), answered None lent []) ∷
+          (bring us table (message 0x102 0x10000D800 0x20001), answered (Some 0) (Value zero_result) []) ∷
+          (finish us table 0 None, answered None lent (key_event code.Digit1 (character (0x31 ∷ [])) (Some (0x00 ∷ 0x00 ∷ [])) at.Standard Pressed false false (Some (0x00 ∷ 0x00 ∷ [])) (character (0x31 ∷ [])) ∷ [])) ∷
           [];
     }
 
@@ -572,12 +571,12 @@ zero_units =
     record {
       start = fresh_session;
       calls =
-          (bring us table (message 0x100 0x31 0x20001), answered (some 0) (Value zero_result) []) ∷
-          (finish us table 0 (some (message 0x102 0x31 0x20001)), answered none lent []) ∷
-          (bring us table (message 0x102 0x110000 0x20001), answered (some 0) (Value zero_result) []) ∷
-          (finish us table 0 (some (message 0x102 0x31 0x20001)), answered none lent []) ∷
-          (bring us table (message 0x102 0x100000061 0x20001), answered (some 0) (Value zero_result) []) ∷
-          (finish us table 0 none, answered none lent (key_event code.Digit1 (character (0x31 ∷ [])) (some (0x00 ∷ 0x00 ∷ 0x61 ∷ [])) at.Standard Pressed false false (some (0x00 ∷ 0x00 ∷ 0x61 ∷ [])) (character (0x31 ∷ [])) ∷ [])) ∷
+          (bring us table (message 0x100 0x31 0x20001), answered (Some 0) (Value zero_result) []) ∷
+          (finish us table 0 (Some (message 0x102 0x31 0x20001)), answered None lent []) ∷
+          (bring us table (message 0x102 0x110000 0x20001), answered (Some 0) (Value zero_result) []) ∷
+          (finish us table 0 (Some (message 0x102 0x31 0x20001)), answered None lent []) ∷
+          (bring us table (message 0x102 0x100000061 0x20001), answered (Some 0) (Value zero_result) []) ∷
+          (finish us table 0 None, answered None lent (key_event code.Digit1 (character (0x31 ∷ [])) (Some (0x00 ∷ 0x00 ∷ 0x61 ∷ [])) at.Standard Pressed false false (Some (0x00 ∷ 0x00 ∷ 0x61 ∷ [])) (character (0x31 ∷ [])) ∷ [])) ∷
           [];
     }
 
@@ -587,26 +586,26 @@ one_piece =
     record {
       start = fresh_session;
       calls =
-          (bring us table (message 0x100 0x31 0x20001), answered (some 0) (Value zero_result) []) ∷
-          (finish us table 0 (some (message 0x102 0x31 0x20001)), answered none lent []) ∷
-          (bring us table (message 0x102 0x0D 0x20001), answered (some 0) (Value zero_result) []) ∷
-          (finish us table 0 (some (message 0x102 0x31 0x20001)), answered none lent []) ∷
-          (bring us table (message 0x102 0x0A 0x20001), answered (some 0) (Value zero_result) []) ∷
-          (finish us table 0 none, answered none lent (key_event code.Digit1 (character (0x0D ∷ 0x0A ∷ [])) (some (0x0D ∷ 0x0A ∷ [])) at.Standard Pressed false false (some (0x0D ∷ 0x0A ∷ [])) (character (0x31 ∷ [])) ∷ [])) ∷
-          (bring us table (message 0x100 0x31 0x20001), answered (some 0) (Value zero_result) []) ∷
-          (finish us table 0 (some (message 0x102 0x31 0x20001)), answered none lent []) ∷
-          (bring us table (message 0x102 0x65 0x20001), answered (some 0) (Value zero_result) []) ∷
-          (finish us table 0 (some (message 0x102 0x31 0x20001)), answered none lent []) ∷
-          (bring us table (message 0x102 0x301 0x20001), answered (some 0) (Value zero_result) []) ∷
-          (finish us table 0 none, answered none lent (key_event code.Digit1 (character (0x65 ∷ 0xCC ∷ 0x81 ∷ [])) (some (0x65 ∷ 0xCC ∷ 0x81 ∷ [])) at.Standard Pressed false false (some (0x65 ∷ 0xCC ∷ 0x81 ∷ [])) (character (0x31 ∷ [])) ∷ [])) ∷
-          (bring us table (message 0x100 0x31 0x20001), answered (some 0) (Value zero_result) []) ∷
-          (finish us table 0 (some (message 0x102 0x31 0x20001)), answered none lent []) ∷
-          (bring us table (message 0x102 0x65 0x20001), answered (some 0) (Value zero_result) []) ∷
-          (finish us table 0 (some (message 0x102 0x31 0x20001)), answered none lent []) ∷
-          (bring us table (message 0x102 0x301 0x20001), answered (some 0) (Value zero_result) []) ∷
-          (finish us table 0 (some (message 0x102 0x31 0x20001)), answered none lent []) ∷
-          (bring us table (message 0x102 0x36F 0x20001), answered (some 0) (Value zero_result) []) ∷
-          (finish us table 0 none, answered none lent (key_event code.Digit1 (character (0x65 ∷ 0xCC ∷ 0x81 ∷ 0xCD ∷ 0xAF ∷ [])) (some (0x65 ∷ 0xCC ∷ 0x81 ∷ 0xCD ∷ 0xAF ∷ [])) at.Standard Pressed false false (some (0x65 ∷ 0xCC ∷ 0x81 ∷ 0xCD ∷ 0xAF ∷ [])) (character (0x31 ∷ [])) ∷ [])) ∷
+          (bring us table (message 0x100 0x31 0x20001), answered (Some 0) (Value zero_result) []) ∷
+          (finish us table 0 (Some (message 0x102 0x31 0x20001)), answered None lent []) ∷
+          (bring us table (message 0x102 0x0D 0x20001), answered (Some 0) (Value zero_result) []) ∷
+          (finish us table 0 (Some (message 0x102 0x31 0x20001)), answered None lent []) ∷
+          (bring us table (message 0x102 0x0A 0x20001), answered (Some 0) (Value zero_result) []) ∷
+          (finish us table 0 None, answered None lent (key_event code.Digit1 (character (0x0D ∷ 0x0A ∷ [])) (Some (0x0D ∷ 0x0A ∷ [])) at.Standard Pressed false false (Some (0x0D ∷ 0x0A ∷ [])) (character (0x31 ∷ [])) ∷ [])) ∷
+          (bring us table (message 0x100 0x31 0x20001), answered (Some 0) (Value zero_result) []) ∷
+          (finish us table 0 (Some (message 0x102 0x31 0x20001)), answered None lent []) ∷
+          (bring us table (message 0x102 0x65 0x20001), answered (Some 0) (Value zero_result) []) ∷
+          (finish us table 0 (Some (message 0x102 0x31 0x20001)), answered None lent []) ∷
+          (bring us table (message 0x102 0x301 0x20001), answered (Some 0) (Value zero_result) []) ∷
+          (finish us table 0 None, answered None lent (key_event code.Digit1 (character (0x65 ∷ 0xCC ∷ 0x81 ∷ [])) (Some (0x65 ∷ 0xCC ∷ 0x81 ∷ [])) at.Standard Pressed false false (Some (0x65 ∷ 0xCC ∷ 0x81 ∷ [])) (character (0x31 ∷ [])) ∷ [])) ∷
+          (bring us table (message 0x100 0x31 0x20001), answered (Some 0) (Value zero_result) []) ∷
+          (finish us table 0 (Some (message 0x102 0x31 0x20001)), answered None lent []) ∷
+          (bring us table (message 0x102 0x65 0x20001), answered (Some 0) (Value zero_result) []) ∷
+          (finish us table 0 (Some (message 0x102 0x31 0x20001)), answered None lent []) ∷
+          (bring us table (message 0x102 0x301 0x20001), answered (Some 0) (Value zero_result) []) ∷
+          (finish us table 0 (Some (message 0x102 0x31 0x20001)), answered None lent []) ∷
+          (bring us table (message 0x102 0x36F 0x20001), answered (Some 0) (Value zero_result) []) ∷
+          (finish us table 0 None, answered None lent (key_event code.Digit1 (character (0x65 ∷ 0xCC ∷ 0x81 ∷ 0xCD ∷ 0xAF ∷ [])) (Some (0x65 ∷ 0xCC ∷ 0x81 ∷ 0xCD ∷ 0xAF ∷ [])) at.Standard Pressed false false (Some (0x65 ∷ 0xCC ∷ 0x81 ∷ 0xCD ∷ 0xAF ∷ [])) (character (0x31 ∷ [])) ∷ [])) ∷
           [];
     }
 
@@ -616,14 +615,14 @@ several-pieces =
     record {
       start = fresh_session;
       calls =
-          (bring us table (message 0x100 0x31 0x20001), answered (some 0) (Value zero_result) []) ∷
-          (finish us table 0 (some (message 0x102 0x31 0x20001)), answered none lent []) ∷
-          (bring us table (message 0x102 0x0D 0x20001), answered (some 0) (Value zero_result) []) ∷
-          (finish us table 0 (some (message 0x102 0x31 0x20001)), answered none lent []) ∷
-          (bring us table (message 0x102 0x0A 0x20001), answered (some 0) (Value zero_result) []) ∷
-          (finish us table 0 (some (message 0x102 0x31 0x20001)), answered none lent []) ∷
-          (bring us table (message 0x102 0x301 0x20001), answered (some 0) (Value zero_result) []) ∷
-          (finish us table 0 none, answered none lent (key_event code.Digit1 (character (0x31 ∷ [])) (some (0x0D ∷ 0x0A ∷ 0xCC ∷ 0x81 ∷ [])) at.Standard Pressed false false (some (0x0D ∷ 0x0A ∷ 0xCC ∷ 0x81 ∷ [])) (character (0x31 ∷ [])) ∷ [])) ∷
+          (bring us table (message 0x100 0x31 0x20001), answered (Some 0) (Value zero_result) []) ∷
+          (finish us table 0 (Some (message 0x102 0x31 0x20001)), answered None lent []) ∷
+          (bring us table (message 0x102 0x0D 0x20001), answered (Some 0) (Value zero_result) []) ∷
+          (finish us table 0 (Some (message 0x102 0x31 0x20001)), answered None lent []) ∷
+          (bring us table (message 0x102 0x0A 0x20001), answered (Some 0) (Value zero_result) []) ∷
+          (finish us table 0 (Some (message 0x102 0x31 0x20001)), answered None lent []) ∷
+          (bring us table (message 0x102 0x301 0x20001), answered (Some 0) (Value zero_result) []) ∷
+          (finish us table 0 None, answered None lent (key_event code.Digit1 (character (0x31 ∷ [])) (Some (0x0D ∷ 0x0A ∷ 0xCC ∷ 0x81 ∷ [])) at.Standard Pressed false false (Some (0x0D ∷ 0x0A ∷ 0xCC ∷ 0x81 ∷ [])) (character (0x31 ∷ [])) ∷ [])) ∷
           [];
     }
 
@@ -633,18 +632,18 @@ no_ranges_of_class =
     record {
       start = fresh_session;
       calls =
-          (bring us no_ranges (message 0x100 0x31 0x20001), answered (some 0) (Value zero_result) []) ∷
-          (finish us no_ranges 0 (some (message 0x102 0x31 0x20001)), answered none lent []) ∷
-          (bring us no_ranges (message 0x102 0x0D 0x20001), answered (some 0) (Value zero_result) []) ∷
-          (finish us no_ranges 0 (some (message 0x102 0x31 0x20001)), answered none lent []) ∷
-          (bring us no_ranges (message 0x102 0x0A 0x20001), answered (some 0) (Value zero_result) []) ∷
-          (finish us no_ranges 0 none, answered none lent (key_event code.Digit1 (character (0x31 ∷ [])) (some (0x0D ∷ 0x0A ∷ [])) at.Standard Pressed false false (some (0x0D ∷ 0x0A ∷ [])) (character (0x31 ∷ [])) ∷ [])) ∷
-          (bring us no_ranges (message 0x100 0x31 0x20001), answered (some 0) (Value zero_result) []) ∷
-          (finish us no_ranges 0 (some (message 0x102 0x31 0x20001)), answered none lent []) ∷
-          (bring us no_ranges (message 0x102 0x65 0x20001), answered (some 0) (Value zero_result) []) ∷
-          (finish us no_ranges 0 (some (message 0x102 0x31 0x20001)), answered none lent []) ∷
-          (bring us no_ranges (message 0x102 0x301 0x20001), answered (some 0) (Value zero_result) []) ∷
-          (finish us no_ranges 0 none, answered none lent (key_event code.Digit1 (character (0x31 ∷ [])) (some (0x65 ∷ 0xCC ∷ 0x81 ∷ [])) at.Standard Pressed false false (some (0x65 ∷ 0xCC ∷ 0x81 ∷ [])) (character (0x31 ∷ [])) ∷ [])) ∷
+          (bring us no_ranges (message 0x100 0x31 0x20001), answered (Some 0) (Value zero_result) []) ∷
+          (finish us no_ranges 0 (Some (message 0x102 0x31 0x20001)), answered None lent []) ∷
+          (bring us no_ranges (message 0x102 0x0D 0x20001), answered (Some 0) (Value zero_result) []) ∷
+          (finish us no_ranges 0 (Some (message 0x102 0x31 0x20001)), answered None lent []) ∷
+          (bring us no_ranges (message 0x102 0x0A 0x20001), answered (Some 0) (Value zero_result) []) ∷
+          (finish us no_ranges 0 None, answered None lent (key_event code.Digit1 (character (0x31 ∷ [])) (Some (0x0D ∷ 0x0A ∷ [])) at.Standard Pressed false false (Some (0x0D ∷ 0x0A ∷ [])) (character (0x31 ∷ [])) ∷ [])) ∷
+          (bring us no_ranges (message 0x100 0x31 0x20001), answered (Some 0) (Value zero_result) []) ∷
+          (finish us no_ranges 0 (Some (message 0x102 0x31 0x20001)), answered None lent []) ∷
+          (bring us no_ranges (message 0x102 0x65 0x20001), answered (Some 0) (Value zero_result) []) ∷
+          (finish us no_ranges 0 (Some (message 0x102 0x31 0x20001)), answered None lent []) ∷
+          (bring us no_ranges (message 0x102 0x301 0x20001), answered (Some 0) (Value zero_result) []) ∷
+          (finish us no_ranges 0 None, answered None lent (key_event code.Digit1 (character (0x31 ∷ [])) (Some (0x65 ∷ 0xCC ∷ 0x81 ∷ [])) at.Standard Pressed false false (Some (0x65 ∷ 0xCC ∷ 0x81 ∷ [])) (character (0x31 ∷ [])) ∷ [])) ∷
           [];
     }
 
@@ -654,24 +653,24 @@ joined_pictographs =
     record {
       start = fresh_session;
       calls =
-          (bring us table (message 0x100 0x31 0x20001), answered (some 0) (Value zero_result) []) ∷
-          (finish us table 0 (some (message 0x102 0x31 0x20001)), answered none lent []) ∷
-          (bring us table (message 0x102 0x1F468 0x20001), answered (some 0) (Value zero_result) []) ∷
-          (finish us table 0 (some (message 0x102 0x31 0x20001)), answered none lent []) ∷
-          (bring us table (message 0x102 0x200D 0x20001), answered (some 0) (Value zero_result) []) ∷
-          (finish us table 0 (some (message 0x102 0x31 0x20001)), answered none lent []) ∷
-          (bring us table (message 0x102 0x1F469 0x20001), answered (some 0) (Value zero_result) []) ∷
-          (finish us table 0 none, answered none lent (key_event code.Digit1 (character (0xF0 ∷ 0x9F ∷ 0x91 ∷ 0xA8 ∷ 0xE2 ∷ 0x80 ∷ 0x8D ∷ 0xF0 ∷ 0x9F ∷ 0x91 ∷ 0xA9 ∷ [])) (some (0xF0 ∷ 0x9F ∷ 0x91 ∷ 0xA8 ∷ 0xE2 ∷ 0x80 ∷ 0x8D ∷ 0xF0 ∷ 0x9F ∷ 0x91 ∷ 0xA9 ∷ [])) at.Standard Pressed false false (some (0xF0 ∷ 0x9F ∷ 0x91 ∷ 0xA8 ∷ 0xE2 ∷ 0x80 ∷ 0x8D ∷ 0xF0 ∷ 0x9F ∷ 0x91 ∷ 0xA9 ∷ [])) (character (0x31 ∷ [])) ∷ [])) ∷
-          (bring us table (message 0x100 0x31 0x20001), answered (some 0) (Value zero_result) []) ∷
-          (finish us table 0 (some (message 0x102 0x31 0x20001)), answered none lent []) ∷
-          (bring us table (message 0x102 0x1F468 0x20001), answered (some 0) (Value zero_result) []) ∷
-          (finish us table 0 (some (message 0x102 0x31 0x20001)), answered none lent []) ∷
-          (bring us table (message 0x102 0x1F3FB 0x20001), answered (some 0) (Value zero_result) []) ∷
-          (finish us table 0 (some (message 0x102 0x31 0x20001)), answered none lent []) ∷
-          (bring us table (message 0x102 0x200D 0x20001), answered (some 0) (Value zero_result) []) ∷
-          (finish us table 0 (some (message 0x102 0x31 0x20001)), answered none lent []) ∷
-          (bring us table (message 0x102 0x1F469 0x20001), answered (some 0) (Value zero_result) []) ∷
-          (finish us table 0 none, answered none lent (key_event code.Digit1 (character (0xF0 ∷ 0x9F ∷ 0x91 ∷ 0xA8 ∷ 0xF0 ∷ 0x9F ∷ 0x8F ∷ 0xBB ∷ 0xE2 ∷ 0x80 ∷ 0x8D ∷ 0xF0 ∷ 0x9F ∷ 0x91 ∷ 0xA9 ∷ [])) (some (0xF0 ∷ 0x9F ∷ 0x91 ∷ 0xA8 ∷ 0xF0 ∷ 0x9F ∷ 0x8F ∷ 0xBB ∷ 0xE2 ∷ 0x80 ∷ 0x8D ∷ 0xF0 ∷ 0x9F ∷ 0x91 ∷ 0xA9 ∷ [])) at.Standard Pressed false false (some (0xF0 ∷ 0x9F ∷ 0x91 ∷ 0xA8 ∷ 0xF0 ∷ 0x9F ∷ 0x8F ∷ 0xBB ∷ 0xE2 ∷ 0x80 ∷ 0x8D ∷ 0xF0 ∷ 0x9F ∷ 0x91 ∷ 0xA9 ∷ [])) (character (0x31 ∷ [])) ∷ [])) ∷
+          (bring us table (message 0x100 0x31 0x20001), answered (Some 0) (Value zero_result) []) ∷
+          (finish us table 0 (Some (message 0x102 0x31 0x20001)), answered None lent []) ∷
+          (bring us table (message 0x102 0x1F468 0x20001), answered (Some 0) (Value zero_result) []) ∷
+          (finish us table 0 (Some (message 0x102 0x31 0x20001)), answered None lent []) ∷
+          (bring us table (message 0x102 0x200D 0x20001), answered (Some 0) (Value zero_result) []) ∷
+          (finish us table 0 (Some (message 0x102 0x31 0x20001)), answered None lent []) ∷
+          (bring us table (message 0x102 0x1F469 0x20001), answered (Some 0) (Value zero_result) []) ∷
+          (finish us table 0 None, answered None lent (key_event code.Digit1 (character (0xF0 ∷ 0x9F ∷ 0x91 ∷ 0xA8 ∷ 0xE2 ∷ 0x80 ∷ 0x8D ∷ 0xF0 ∷ 0x9F ∷ 0x91 ∷ 0xA9 ∷ [])) (Some (0xF0 ∷ 0x9F ∷ 0x91 ∷ 0xA8 ∷ 0xE2 ∷ 0x80 ∷ 0x8D ∷ 0xF0 ∷ 0x9F ∷ 0x91 ∷ 0xA9 ∷ [])) at.Standard Pressed false false (Some (0xF0 ∷ 0x9F ∷ 0x91 ∷ 0xA8 ∷ 0xE2 ∷ 0x80 ∷ 0x8D ∷ 0xF0 ∷ 0x9F ∷ 0x91 ∷ 0xA9 ∷ [])) (character (0x31 ∷ [])) ∷ [])) ∷
+          (bring us table (message 0x100 0x31 0x20001), answered (Some 0) (Value zero_result) []) ∷
+          (finish us table 0 (Some (message 0x102 0x31 0x20001)), answered None lent []) ∷
+          (bring us table (message 0x102 0x1F468 0x20001), answered (Some 0) (Value zero_result) []) ∷
+          (finish us table 0 (Some (message 0x102 0x31 0x20001)), answered None lent []) ∷
+          (bring us table (message 0x102 0x1F3FB 0x20001), answered (Some 0) (Value zero_result) []) ∷
+          (finish us table 0 (Some (message 0x102 0x31 0x20001)), answered None lent []) ∷
+          (bring us table (message 0x102 0x200D 0x20001), answered (Some 0) (Value zero_result) []) ∷
+          (finish us table 0 (Some (message 0x102 0x31 0x20001)), answered None lent []) ∷
+          (bring us table (message 0x102 0x1F469 0x20001), answered (Some 0) (Value zero_result) []) ∷
+          (finish us table 0 None, answered None lent (key_event code.Digit1 (character (0xF0 ∷ 0x9F ∷ 0x91 ∷ 0xA8 ∷ 0xF0 ∷ 0x9F ∷ 0x8F ∷ 0xBB ∷ 0xE2 ∷ 0x80 ∷ 0x8D ∷ 0xF0 ∷ 0x9F ∷ 0x91 ∷ 0xA9 ∷ [])) (Some (0xF0 ∷ 0x9F ∷ 0x91 ∷ 0xA8 ∷ 0xF0 ∷ 0x9F ∷ 0x8F ∷ 0xBB ∷ 0xE2 ∷ 0x80 ∷ 0x8D ∷ 0xF0 ∷ 0x9F ∷ 0x91 ∷ 0xA9 ∷ [])) at.Standard Pressed false false (Some (0xF0 ∷ 0x9F ∷ 0x91 ∷ 0xA8 ∷ 0xF0 ∷ 0x9F ∷ 0x8F ∷ 0xBB ∷ 0xE2 ∷ 0x80 ∷ 0x8D ∷ 0xF0 ∷ 0x9F ∷ 0x91 ∷ 0xA9 ∷ [])) (character (0x31 ∷ [])) ∷ [])) ∷
           [];
     }
 
@@ -681,24 +680,24 @@ two_joiners =
     record {
       start = fresh_session;
       calls =
-          (bring us table (message 0x100 0x31 0x20001), answered (some 0) (Value zero_result) []) ∷
-          (finish us table 0 (some (message 0x102 0x31 0x20001)), answered none lent []) ∷
-          (bring us table (message 0x102 0x1F468 0x20001), answered (some 0) (Value zero_result) []) ∷
-          (finish us table 0 (some (message 0x102 0x31 0x20001)), answered none lent []) ∷
-          (bring us table (message 0x102 0x200D 0x20001), answered (some 0) (Value zero_result) []) ∷
-          (finish us table 0 (some (message 0x102 0x31 0x20001)), answered none lent []) ∷
-          (bring us table (message 0x102 0x200D 0x20001), answered (some 0) (Value zero_result) []) ∷
-          (finish us table 0 (some (message 0x102 0x31 0x20001)), answered none lent []) ∷
-          (bring us table (message 0x102 0x1F469 0x20001), answered (some 0) (Value zero_result) []) ∷
-          (finish us table 0 none, answered none lent (key_event code.Digit1 (character (0x31 ∷ [])) (some (0xF0 ∷ 0x9F ∷ 0x91 ∷ 0xA8 ∷ 0xE2 ∷ 0x80 ∷ 0x8D ∷ 0xE2 ∷ 0x80 ∷ 0x8D ∷ 0xF0 ∷ 0x9F ∷ 0x91 ∷ 0xA9 ∷ [])) at.Standard Pressed false false (some (0xF0 ∷ 0x9F ∷ 0x91 ∷ 0xA8 ∷ 0xE2 ∷ 0x80 ∷ 0x8D ∷ 0xE2 ∷ 0x80 ∷ 0x8D ∷ 0xF0 ∷ 0x9F ∷ 0x91 ∷ 0xA9 ∷ [])) (character (0x31 ∷ [])) ∷ [])) ∷
-          (bring us table (message 0x100 0x31 0x20001), answered (some 0) (Value zero_result) []) ∷
-          (finish us table 0 (some (message 0x102 0x31 0x20001)), answered none lent []) ∷
-          (bring us table (message 0x102 0x61 0x20001), answered (some 0) (Value zero_result) []) ∷
-          (finish us table 0 (some (message 0x102 0x31 0x20001)), answered none lent []) ∷
-          (bring us table (message 0x102 0x200D 0x20001), answered (some 0) (Value zero_result) []) ∷
-          (finish us table 0 (some (message 0x102 0x31 0x20001)), answered none lent []) ∷
-          (bring us table (message 0x102 0x1F469 0x20001), answered (some 0) (Value zero_result) []) ∷
-          (finish us table 0 none, answered none lent (key_event code.Digit1 (character (0x31 ∷ [])) (some (0x61 ∷ 0xE2 ∷ 0x80 ∷ 0x8D ∷ 0xF0 ∷ 0x9F ∷ 0x91 ∷ 0xA9 ∷ [])) at.Standard Pressed false false (some (0x61 ∷ 0xE2 ∷ 0x80 ∷ 0x8D ∷ 0xF0 ∷ 0x9F ∷ 0x91 ∷ 0xA9 ∷ [])) (character (0x31 ∷ [])) ∷ [])) ∷
+          (bring us table (message 0x100 0x31 0x20001), answered (Some 0) (Value zero_result) []) ∷
+          (finish us table 0 (Some (message 0x102 0x31 0x20001)), answered None lent []) ∷
+          (bring us table (message 0x102 0x1F468 0x20001), answered (Some 0) (Value zero_result) []) ∷
+          (finish us table 0 (Some (message 0x102 0x31 0x20001)), answered None lent []) ∷
+          (bring us table (message 0x102 0x200D 0x20001), answered (Some 0) (Value zero_result) []) ∷
+          (finish us table 0 (Some (message 0x102 0x31 0x20001)), answered None lent []) ∷
+          (bring us table (message 0x102 0x200D 0x20001), answered (Some 0) (Value zero_result) []) ∷
+          (finish us table 0 (Some (message 0x102 0x31 0x20001)), answered None lent []) ∷
+          (bring us table (message 0x102 0x1F469 0x20001), answered (Some 0) (Value zero_result) []) ∷
+          (finish us table 0 None, answered None lent (key_event code.Digit1 (character (0x31 ∷ [])) (Some (0xF0 ∷ 0x9F ∷ 0x91 ∷ 0xA8 ∷ 0xE2 ∷ 0x80 ∷ 0x8D ∷ 0xE2 ∷ 0x80 ∷ 0x8D ∷ 0xF0 ∷ 0x9F ∷ 0x91 ∷ 0xA9 ∷ [])) at.Standard Pressed false false (Some (0xF0 ∷ 0x9F ∷ 0x91 ∷ 0xA8 ∷ 0xE2 ∷ 0x80 ∷ 0x8D ∷ 0xE2 ∷ 0x80 ∷ 0x8D ∷ 0xF0 ∷ 0x9F ∷ 0x91 ∷ 0xA9 ∷ [])) (character (0x31 ∷ [])) ∷ [])) ∷
+          (bring us table (message 0x100 0x31 0x20001), answered (Some 0) (Value zero_result) []) ∷
+          (finish us table 0 (Some (message 0x102 0x31 0x20001)), answered None lent []) ∷
+          (bring us table (message 0x102 0x61 0x20001), answered (Some 0) (Value zero_result) []) ∷
+          (finish us table 0 (Some (message 0x102 0x31 0x20001)), answered None lent []) ∷
+          (bring us table (message 0x102 0x200D 0x20001), answered (Some 0) (Value zero_result) []) ∷
+          (finish us table 0 (Some (message 0x102 0x31 0x20001)), answered None lent []) ∷
+          (bring us table (message 0x102 0x1F469 0x20001), answered (Some 0) (Value zero_result) []) ∷
+          (finish us table 0 None, answered None lent (key_event code.Digit1 (character (0x31 ∷ [])) (Some (0x61 ∷ 0xE2 ∷ 0x80 ∷ 0x8D ∷ 0xF0 ∷ 0x9F ∷ 0x91 ∷ 0xA9 ∷ [])) at.Standard Pressed false false (Some (0x61 ∷ 0xE2 ∷ 0x80 ∷ 0x8D ∷ 0xF0 ∷ 0x9F ∷ 0x91 ∷ 0xA9 ∷ [])) (character (0x31 ∷ [])) ∷ [])) ∷
           [];
     }
 
@@ -708,28 +707,28 @@ flags =
     record {
       start = fresh_session;
       calls =
-          (bring us table (message 0x100 0x31 0x20001), answered (some 0) (Value zero_result) []) ∷
-          (finish us table 0 (some (message 0x102 0x31 0x20001)), answered none lent []) ∷
-          (bring us table (message 0x102 0x1F1E9 0x20001), answered (some 0) (Value zero_result) []) ∷
-          (finish us table 0 (some (message 0x102 0x31 0x20001)), answered none lent []) ∷
-          (bring us table (message 0x102 0x1F1EA 0x20001), answered (some 0) (Value zero_result) []) ∷
-          (finish us table 0 none, answered none lent (key_event code.Digit1 (character (0xF0 ∷ 0x9F ∷ 0x87 ∷ 0xA9 ∷ 0xF0 ∷ 0x9F ∷ 0x87 ∷ 0xAA ∷ [])) (some (0xF0 ∷ 0x9F ∷ 0x87 ∷ 0xA9 ∷ 0xF0 ∷ 0x9F ∷ 0x87 ∷ 0xAA ∷ [])) at.Standard Pressed false false (some (0xF0 ∷ 0x9F ∷ 0x87 ∷ 0xA9 ∷ 0xF0 ∷ 0x9F ∷ 0x87 ∷ 0xAA ∷ [])) (character (0x31 ∷ [])) ∷ [])) ∷
-          (bring us table (message 0x100 0x31 0x20001), answered (some 0) (Value zero_result) []) ∷
-          (finish us table 0 (some (message 0x102 0x31 0x20001)), answered none lent []) ∷
-          (bring us table (message 0x102 0x1F1E9 0x20001), answered (some 0) (Value zero_result) []) ∷
-          (finish us table 0 (some (message 0x102 0x31 0x20001)), answered none lent []) ∷
-          (bring us table (message 0x102 0x1F1EA 0x20001), answered (some 0) (Value zero_result) []) ∷
-          (finish us table 0 (some (message 0x102 0x31 0x20001)), answered none lent []) ∷
-          (bring us table (message 0x102 0x1F1E9 0x20001), answered (some 0) (Value zero_result) []) ∷
-          (finish us table 0 none, answered none lent (key_event code.Digit1 (character (0x31 ∷ [])) (some (0xF0 ∷ 0x9F ∷ 0x87 ∷ 0xA9 ∷ 0xF0 ∷ 0x9F ∷ 0x87 ∷ 0xAA ∷ 0xF0 ∷ 0x9F ∷ 0x87 ∷ 0xA9 ∷ [])) at.Standard Pressed false false (some (0xF0 ∷ 0x9F ∷ 0x87 ∷ 0xA9 ∷ 0xF0 ∷ 0x9F ∷ 0x87 ∷ 0xAA ∷ 0xF0 ∷ 0x9F ∷ 0x87 ∷ 0xA9 ∷ [])) (character (0x31 ∷ [])) ∷ [])) ∷
-          (bring us table (message 0x100 0x31 0x20001), answered (some 0) (Value zero_result) []) ∷
-          (finish us table 0 (some (message 0x102 0x31 0x20001)), answered none lent []) ∷
-          (bring us table (message 0x102 0x61 0x20001), answered (some 0) (Value zero_result) []) ∷
-          (finish us table 0 (some (message 0x102 0x31 0x20001)), answered none lent []) ∷
-          (bring us table (message 0x102 0x1F1E9 0x20001), answered (some 0) (Value zero_result) []) ∷
-          (finish us table 0 (some (message 0x102 0x31 0x20001)), answered none lent []) ∷
-          (bring us table (message 0x102 0x1F1EA 0x20001), answered (some 0) (Value zero_result) []) ∷
-          (finish us table 0 none, answered none lent (key_event code.Digit1 (character (0x31 ∷ [])) (some (0x61 ∷ 0xF0 ∷ 0x9F ∷ 0x87 ∷ 0xA9 ∷ 0xF0 ∷ 0x9F ∷ 0x87 ∷ 0xAA ∷ [])) at.Standard Pressed false false (some (0x61 ∷ 0xF0 ∷ 0x9F ∷ 0x87 ∷ 0xA9 ∷ 0xF0 ∷ 0x9F ∷ 0x87 ∷ 0xAA ∷ [])) (character (0x31 ∷ [])) ∷ [])) ∷
+          (bring us table (message 0x100 0x31 0x20001), answered (Some 0) (Value zero_result) []) ∷
+          (finish us table 0 (Some (message 0x102 0x31 0x20001)), answered None lent []) ∷
+          (bring us table (message 0x102 0x1F1E9 0x20001), answered (Some 0) (Value zero_result) []) ∷
+          (finish us table 0 (Some (message 0x102 0x31 0x20001)), answered None lent []) ∷
+          (bring us table (message 0x102 0x1F1EA 0x20001), answered (Some 0) (Value zero_result) []) ∷
+          (finish us table 0 None, answered None lent (key_event code.Digit1 (character (0xF0 ∷ 0x9F ∷ 0x87 ∷ 0xA9 ∷ 0xF0 ∷ 0x9F ∷ 0x87 ∷ 0xAA ∷ [])) (Some (0xF0 ∷ 0x9F ∷ 0x87 ∷ 0xA9 ∷ 0xF0 ∷ 0x9F ∷ 0x87 ∷ 0xAA ∷ [])) at.Standard Pressed false false (Some (0xF0 ∷ 0x9F ∷ 0x87 ∷ 0xA9 ∷ 0xF0 ∷ 0x9F ∷ 0x87 ∷ 0xAA ∷ [])) (character (0x31 ∷ [])) ∷ [])) ∷
+          (bring us table (message 0x100 0x31 0x20001), answered (Some 0) (Value zero_result) []) ∷
+          (finish us table 0 (Some (message 0x102 0x31 0x20001)), answered None lent []) ∷
+          (bring us table (message 0x102 0x1F1E9 0x20001), answered (Some 0) (Value zero_result) []) ∷
+          (finish us table 0 (Some (message 0x102 0x31 0x20001)), answered None lent []) ∷
+          (bring us table (message 0x102 0x1F1EA 0x20001), answered (Some 0) (Value zero_result) []) ∷
+          (finish us table 0 (Some (message 0x102 0x31 0x20001)), answered None lent []) ∷
+          (bring us table (message 0x102 0x1F1E9 0x20001), answered (Some 0) (Value zero_result) []) ∷
+          (finish us table 0 None, answered None lent (key_event code.Digit1 (character (0x31 ∷ [])) (Some (0xF0 ∷ 0x9F ∷ 0x87 ∷ 0xA9 ∷ 0xF0 ∷ 0x9F ∷ 0x87 ∷ 0xAA ∷ 0xF0 ∷ 0x9F ∷ 0x87 ∷ 0xA9 ∷ [])) at.Standard Pressed false false (Some (0xF0 ∷ 0x9F ∷ 0x87 ∷ 0xA9 ∷ 0xF0 ∷ 0x9F ∷ 0x87 ∷ 0xAA ∷ 0xF0 ∷ 0x9F ∷ 0x87 ∷ 0xA9 ∷ [])) (character (0x31 ∷ [])) ∷ [])) ∷
+          (bring us table (message 0x100 0x31 0x20001), answered (Some 0) (Value zero_result) []) ∷
+          (finish us table 0 (Some (message 0x102 0x31 0x20001)), answered None lent []) ∷
+          (bring us table (message 0x102 0x61 0x20001), answered (Some 0) (Value zero_result) []) ∷
+          (finish us table 0 (Some (message 0x102 0x31 0x20001)), answered None lent []) ∷
+          (bring us table (message 0x102 0x1F1E9 0x20001), answered (Some 0) (Value zero_result) []) ∷
+          (finish us table 0 (Some (message 0x102 0x31 0x20001)), answered None lent []) ∷
+          (bring us table (message 0x102 0x1F1EA 0x20001), answered (Some 0) (Value zero_result) []) ∷
+          (finish us table 0 None, answered None lent (key_event code.Digit1 (character (0x31 ∷ [])) (Some (0x61 ∷ 0xF0 ∷ 0x9F ∷ 0x87 ∷ 0xA9 ∷ 0xF0 ∷ 0x9F ∷ 0x87 ∷ 0xAA ∷ [])) at.Standard Pressed false false (Some (0x61 ∷ 0xF0 ∷ 0x9F ∷ 0x87 ∷ 0xA9 ∷ 0xF0 ∷ 0x9F ∷ 0x87 ∷ 0xAA ∷ [])) (character (0x31 ∷ [])) ∷ [])) ∷
           [];
     }
 
@@ -739,28 +738,28 @@ syllables =
     record {
       start = fresh_session;
       calls =
-          (bring us table (message 0x100 0x31 0x20001), answered (some 0) (Value zero_result) []) ∷
-          (finish us table 0 (some (message 0x102 0x31 0x20001)), answered none lent []) ∷
-          (bring us table (message 0x102 0x1100 0x20001), answered (some 0) (Value zero_result) []) ∷
-          (finish us table 0 (some (message 0x102 0x31 0x20001)), answered none lent []) ∷
-          (bring us table (message 0x102 0x1161 0x20001), answered (some 0) (Value zero_result) []) ∷
-          (finish us table 0 (some (message 0x102 0x31 0x20001)), answered none lent []) ∷
-          (bring us table (message 0x102 0x11A8 0x20001), answered (some 0) (Value zero_result) []) ∷
-          (finish us table 0 none, answered none lent (key_event code.Digit1 (character (0xE1 ∷ 0x84 ∷ 0x80 ∷ 0xE1 ∷ 0x85 ∷ 0xA1 ∷ 0xE1 ∷ 0x86 ∷ 0xA8 ∷ [])) (some (0xE1 ∷ 0x84 ∷ 0x80 ∷ 0xE1 ∷ 0x85 ∷ 0xA1 ∷ 0xE1 ∷ 0x86 ∷ 0xA8 ∷ [])) at.Standard Pressed false false (some (0xE1 ∷ 0x84 ∷ 0x80 ∷ 0xE1 ∷ 0x85 ∷ 0xA1 ∷ 0xE1 ∷ 0x86 ∷ 0xA8 ∷ [])) (character (0x31 ∷ [])) ∷ [])) ∷
-          (bring us table (message 0x100 0x31 0x20001), answered (some 0) (Value zero_result) []) ∷
-          (finish us table 0 (some (message 0x102 0x31 0x20001)), answered none lent []) ∷
-          (bring us table (message 0x102 0xAC00 0x20001), answered (some 0) (Value zero_result) []) ∷
-          (finish us table 0 (some (message 0x102 0x31 0x20001)), answered none lent []) ∷
-          (bring us table (message 0x102 0x11A8 0x20001), answered (some 0) (Value zero_result) []) ∷
-          (finish us table 0 none, answered none lent (key_event code.Digit1 (character (0xEA ∷ 0xB0 ∷ 0x80 ∷ 0xE1 ∷ 0x86 ∷ 0xA8 ∷ [])) (some (0xEA ∷ 0xB0 ∷ 0x80 ∷ 0xE1 ∷ 0x86 ∷ 0xA8 ∷ [])) at.Standard Pressed false false (some (0xEA ∷ 0xB0 ∷ 0x80 ∷ 0xE1 ∷ 0x86 ∷ 0xA8 ∷ [])) (character (0x31 ∷ [])) ∷ [])) ∷
-          (bring us table (message 0x100 0x31 0x20001), answered (some 0) (Value zero_result) []) ∷
-          (finish us table 0 (some (message 0x102 0x31 0x20001)), answered none lent []) ∷
-          (bring us table (message 0x102 0x1100 0x20001), answered (some 0) (Value zero_result) []) ∷
-          (finish us table 0 (some (message 0x102 0x31 0x20001)), answered none lent []) ∷
-          (bring us table (message 0x102 0x11A8 0x20001), answered (some 0) (Value zero_result) []) ∷
-          (finish us table 0 (some (message 0x102 0x31 0x20001)), answered none lent []) ∷
-          (bring us table (message 0x102 0x1161 0x20001), answered (some 0) (Value zero_result) []) ∷
-          (finish us table 0 none, answered none lent (key_event code.Digit1 (character (0x31 ∷ [])) (some (0xE1 ∷ 0x84 ∷ 0x80 ∷ 0xE1 ∷ 0x86 ∷ 0xA8 ∷ 0xE1 ∷ 0x85 ∷ 0xA1 ∷ [])) at.Standard Pressed false false (some (0xE1 ∷ 0x84 ∷ 0x80 ∷ 0xE1 ∷ 0x86 ∷ 0xA8 ∷ 0xE1 ∷ 0x85 ∷ 0xA1 ∷ [])) (character (0x31 ∷ [])) ∷ [])) ∷
+          (bring us table (message 0x100 0x31 0x20001), answered (Some 0) (Value zero_result) []) ∷
+          (finish us table 0 (Some (message 0x102 0x31 0x20001)), answered None lent []) ∷
+          (bring us table (message 0x102 0x1100 0x20001), answered (Some 0) (Value zero_result) []) ∷
+          (finish us table 0 (Some (message 0x102 0x31 0x20001)), answered None lent []) ∷
+          (bring us table (message 0x102 0x1161 0x20001), answered (Some 0) (Value zero_result) []) ∷
+          (finish us table 0 (Some (message 0x102 0x31 0x20001)), answered None lent []) ∷
+          (bring us table (message 0x102 0x11A8 0x20001), answered (Some 0) (Value zero_result) []) ∷
+          (finish us table 0 None, answered None lent (key_event code.Digit1 (character (0xE1 ∷ 0x84 ∷ 0x80 ∷ 0xE1 ∷ 0x85 ∷ 0xA1 ∷ 0xE1 ∷ 0x86 ∷ 0xA8 ∷ [])) (Some (0xE1 ∷ 0x84 ∷ 0x80 ∷ 0xE1 ∷ 0x85 ∷ 0xA1 ∷ 0xE1 ∷ 0x86 ∷ 0xA8 ∷ [])) at.Standard Pressed false false (Some (0xE1 ∷ 0x84 ∷ 0x80 ∷ 0xE1 ∷ 0x85 ∷ 0xA1 ∷ 0xE1 ∷ 0x86 ∷ 0xA8 ∷ [])) (character (0x31 ∷ [])) ∷ [])) ∷
+          (bring us table (message 0x100 0x31 0x20001), answered (Some 0) (Value zero_result) []) ∷
+          (finish us table 0 (Some (message 0x102 0x31 0x20001)), answered None lent []) ∷
+          (bring us table (message 0x102 0xAC00 0x20001), answered (Some 0) (Value zero_result) []) ∷
+          (finish us table 0 (Some (message 0x102 0x31 0x20001)), answered None lent []) ∷
+          (bring us table (message 0x102 0x11A8 0x20001), answered (Some 0) (Value zero_result) []) ∷
+          (finish us table 0 None, answered None lent (key_event code.Digit1 (character (0xEA ∷ 0xB0 ∷ 0x80 ∷ 0xE1 ∷ 0x86 ∷ 0xA8 ∷ [])) (Some (0xEA ∷ 0xB0 ∷ 0x80 ∷ 0xE1 ∷ 0x86 ∷ 0xA8 ∷ [])) at.Standard Pressed false false (Some (0xEA ∷ 0xB0 ∷ 0x80 ∷ 0xE1 ∷ 0x86 ∷ 0xA8 ∷ [])) (character (0x31 ∷ [])) ∷ [])) ∷
+          (bring us table (message 0x100 0x31 0x20001), answered (Some 0) (Value zero_result) []) ∷
+          (finish us table 0 (Some (message 0x102 0x31 0x20001)), answered None lent []) ∷
+          (bring us table (message 0x102 0x1100 0x20001), answered (Some 0) (Value zero_result) []) ∷
+          (finish us table 0 (Some (message 0x102 0x31 0x20001)), answered None lent []) ∷
+          (bring us table (message 0x102 0x11A8 0x20001), answered (Some 0) (Value zero_result) []) ∷
+          (finish us table 0 (Some (message 0x102 0x31 0x20001)), answered None lent []) ∷
+          (bring us table (message 0x102 0x1161 0x20001), answered (Some 0) (Value zero_result) []) ∷
+          (finish us table 0 None, answered None lent (key_event code.Digit1 (character (0x31 ∷ [])) (Some (0xE1 ∷ 0x84 ∷ 0x80 ∷ 0xE1 ∷ 0x86 ∷ 0xA8 ∷ 0xE1 ∷ 0x85 ∷ 0xA1 ∷ [])) at.Standard Pressed false false (Some (0xE1 ∷ 0x84 ∷ 0x80 ∷ 0xE1 ∷ 0x86 ∷ 0xA8 ∷ 0xE1 ∷ 0x85 ∷ 0xA1 ∷ [])) (character (0x31 ∷ [])) ∷ [])) ∷
           [];
     }
 
@@ -770,14 +769,14 @@ conjunct =
     record {
       start = fresh_session;
       calls =
-          (bring us table (message 0x100 0x31 0x20001), answered (some 0) (Value zero_result) []) ∷
-          (finish us table 0 (some (message 0x102 0x31 0x20001)), answered none lent []) ∷
-          (bring us table (message 0x102 0x915 0x20001), answered (some 0) (Value zero_result) []) ∷
-          (finish us table 0 (some (message 0x102 0x31 0x20001)), answered none lent []) ∷
-          (bring us table (message 0x102 0x94D 0x20001), answered (some 0) (Value zero_result) []) ∷
-          (finish us table 0 (some (message 0x102 0x31 0x20001)), answered none lent []) ∷
-          (bring us table (message 0x102 0x937 0x20001), answered (some 0) (Value zero_result) []) ∷
-          (finish us table 0 none, answered none lent (key_event code.Digit1 (character (0x31 ∷ [])) (some (0xE0 ∷ 0xA4 ∷ 0x95 ∷ 0xE0 ∷ 0xA5 ∷ 0x8D ∷ 0xE0 ∷ 0xA4 ∷ 0xB7 ∷ [])) at.Standard Pressed false false (some (0xE0 ∷ 0xA4 ∷ 0x95 ∷ 0xE0 ∷ 0xA5 ∷ 0x8D ∷ 0xE0 ∷ 0xA4 ∷ 0xB7 ∷ [])) (character (0x31 ∷ [])) ∷ [])) ∷
+          (bring us table (message 0x100 0x31 0x20001), answered (Some 0) (Value zero_result) []) ∷
+          (finish us table 0 (Some (message 0x102 0x31 0x20001)), answered None lent []) ∷
+          (bring us table (message 0x102 0x915 0x20001), answered (Some 0) (Value zero_result) []) ∷
+          (finish us table 0 (Some (message 0x102 0x31 0x20001)), answered None lent []) ∷
+          (bring us table (message 0x102 0x94D 0x20001), answered (Some 0) (Value zero_result) []) ∷
+          (finish us table 0 (Some (message 0x102 0x31 0x20001)), answered None lent []) ∷
+          (bring us table (message 0x102 0x937 0x20001), answered (Some 0) (Value zero_result) []) ∷
+          (finish us table 0 None, answered None lent (key_event code.Digit1 (character (0x31 ∷ [])) (Some (0xE0 ∷ 0xA4 ∷ 0x95 ∷ 0xE0 ∷ 0xA5 ∷ 0x8D ∷ 0xE0 ∷ 0xA4 ∷ 0xB7 ∷ [])) at.Standard Pressed false false (Some (0xE0 ∷ 0xA4 ∷ 0x95 ∷ 0xE0 ∷ 0xA5 ∷ 0x8D ∷ 0xE0 ∷ 0xA4 ∷ 0xB7 ∷ [])) (character (0x31 ∷ [])) ∷ [])) ∷
           [];
     }
 
@@ -787,24 +786,24 @@ around_a_letter =
     record {
       start = fresh_session;
       calls =
-          (bring us table (message 0x100 0x31 0x20001), answered (some 0) (Value zero_result) []) ∷
-          (finish us table 0 (some (message 0x102 0x31 0x20001)), answered none lent []) ∷
-          (bring us table (message 0x102 0x915 0x20001), answered (some 0) (Value zero_result) []) ∷
-          (finish us table 0 (some (message 0x102 0x31 0x20001)), answered none lent []) ∷
-          (bring us table (message 0x102 0x903 0x20001), answered (some 0) (Value zero_result) []) ∷
-          (finish us table 0 none, answered none lent (key_event code.Digit1 (character (0xE0 ∷ 0xA4 ∷ 0x95 ∷ 0xE0 ∷ 0xA4 ∷ 0x83 ∷ [])) (some (0xE0 ∷ 0xA4 ∷ 0x95 ∷ 0xE0 ∷ 0xA4 ∷ 0x83 ∷ [])) at.Standard Pressed false false (some (0xE0 ∷ 0xA4 ∷ 0x95 ∷ 0xE0 ∷ 0xA4 ∷ 0x83 ∷ [])) (character (0x31 ∷ [])) ∷ [])) ∷
-          (bring us table (message 0x100 0x31 0x20001), answered (some 0) (Value zero_result) []) ∷
-          (finish us table 0 (some (message 0x102 0x31 0x20001)), answered none lent []) ∷
-          (bring us table (message 0x102 0x600 0x20001), answered (some 0) (Value zero_result) []) ∷
-          (finish us table 0 (some (message 0x102 0x31 0x20001)), answered none lent []) ∷
-          (bring us table (message 0x102 0x31 0x20001), answered (some 0) (Value zero_result) []) ∷
-          (finish us table 0 none, answered none lent (key_event code.Digit1 (character (0xD8 ∷ 0x80 ∷ 0x31 ∷ [])) (some (0xD8 ∷ 0x80 ∷ 0x31 ∷ [])) at.Standard Pressed false false (some (0xD8 ∷ 0x80 ∷ 0x31 ∷ [])) (character (0x31 ∷ [])) ∷ [])) ∷
-          (bring us table (message 0x100 0x31 0x20001), answered (some 0) (Value zero_result) []) ∷
-          (finish us table 0 (some (message 0x102 0x31 0x20001)), answered none lent []) ∷
-          (bring us table (message 0x102 0x600 0x20001), answered (some 0) (Value zero_result) []) ∷
-          (finish us table 0 (some (message 0x102 0x31 0x20001)), answered none lent []) ∷
-          (bring us table (message 0x102 0x0A 0x20001), answered (some 0) (Value zero_result) []) ∷
-          (finish us table 0 none, answered none lent (key_event code.Digit1 (character (0x31 ∷ [])) (some (0xD8 ∷ 0x80 ∷ 0x0A ∷ [])) at.Standard Pressed false false (some (0xD8 ∷ 0x80 ∷ 0x0A ∷ [])) (character (0x31 ∷ [])) ∷ [])) ∷
+          (bring us table (message 0x100 0x31 0x20001), answered (Some 0) (Value zero_result) []) ∷
+          (finish us table 0 (Some (message 0x102 0x31 0x20001)), answered None lent []) ∷
+          (bring us table (message 0x102 0x915 0x20001), answered (Some 0) (Value zero_result) []) ∷
+          (finish us table 0 (Some (message 0x102 0x31 0x20001)), answered None lent []) ∷
+          (bring us table (message 0x102 0x903 0x20001), answered (Some 0) (Value zero_result) []) ∷
+          (finish us table 0 None, answered None lent (key_event code.Digit1 (character (0xE0 ∷ 0xA4 ∷ 0x95 ∷ 0xE0 ∷ 0xA4 ∷ 0x83 ∷ [])) (Some (0xE0 ∷ 0xA4 ∷ 0x95 ∷ 0xE0 ∷ 0xA4 ∷ 0x83 ∷ [])) at.Standard Pressed false false (Some (0xE0 ∷ 0xA4 ∷ 0x95 ∷ 0xE0 ∷ 0xA4 ∷ 0x83 ∷ [])) (character (0x31 ∷ [])) ∷ [])) ∷
+          (bring us table (message 0x100 0x31 0x20001), answered (Some 0) (Value zero_result) []) ∷
+          (finish us table 0 (Some (message 0x102 0x31 0x20001)), answered None lent []) ∷
+          (bring us table (message 0x102 0x600 0x20001), answered (Some 0) (Value zero_result) []) ∷
+          (finish us table 0 (Some (message 0x102 0x31 0x20001)), answered None lent []) ∷
+          (bring us table (message 0x102 0x31 0x20001), answered (Some 0) (Value zero_result) []) ∷
+          (finish us table 0 None, answered None lent (key_event code.Digit1 (character (0xD8 ∷ 0x80 ∷ 0x31 ∷ [])) (Some (0xD8 ∷ 0x80 ∷ 0x31 ∷ [])) at.Standard Pressed false false (Some (0xD8 ∷ 0x80 ∷ 0x31 ∷ [])) (character (0x31 ∷ [])) ∷ [])) ∷
+          (bring us table (message 0x100 0x31 0x20001), answered (Some 0) (Value zero_result) []) ∷
+          (finish us table 0 (Some (message 0x102 0x31 0x20001)), answered None lent []) ∷
+          (bring us table (message 0x102 0x600 0x20001), answered (Some 0) (Value zero_result) []) ∷
+          (finish us table 0 (Some (message 0x102 0x31 0x20001)), answered None lent []) ∷
+          (bring us table (message 0x102 0x0A 0x20001), answered (Some 0) (Value zero_result) []) ∷
+          (finish us table 0 None, answered None lent (key_event code.Digit1 (character (0x31 ∷ [])) (Some (0xD8 ∷ 0x80 ∷ 0x0A ∷ [])) at.Standard Pressed false false (Some (0xD8 ∷ 0x80 ∷ 0x0A ∷ [])) (character (0x31 ∷ [])) ∷ [])) ∷
           [];
     }
 
@@ -814,18 +813,18 @@ table_of_the_last_finish =
     record {
       start = fresh_session;
       calls =
-          (bring us table (message 0x100 0x31 0x20001), answered (some 0) (Value zero_result) []) ∷
-          (finish us table 0 (some (message 0x102 0x31 0x20001)), answered none lent []) ∷
-          (bring us table (message 0x102 0x0D 0x20001), answered (some 0) (Value zero_result) []) ∷
-          (finish us table 0 (some (message 0x102 0x31 0x20001)), answered none lent []) ∷
-          (bring us table (message 0x102 0x0A 0x20001), answered (some 0) (Value zero_result) []) ∷
-          (finish us no_ranges 0 none, answered none lent (key_event code.Digit1 (character (0x31 ∷ [])) (some (0x0D ∷ 0x0A ∷ [])) at.Standard Pressed false false (some (0x0D ∷ 0x0A ∷ [])) (character (0x31 ∷ [])) ∷ [])) ∷
-          (bring us no_ranges (message 0x100 0x31 0x20001), answered (some 0) (Value zero_result) []) ∷
-          (finish us no_ranges 0 (some (message 0x102 0x31 0x20001)), answered none lent []) ∷
-          (bring us no_ranges (message 0x102 0x0D 0x20001), answered (some 0) (Value zero_result) []) ∷
-          (finish us no_ranges 0 (some (message 0x102 0x31 0x20001)), answered none lent []) ∷
-          (bring us no_ranges (message 0x102 0x0A 0x20001), answered (some 0) (Value zero_result) []) ∷
-          (finish us table 0 none, answered none lent (key_event code.Digit1 (character (0x0D ∷ 0x0A ∷ [])) (some (0x0D ∷ 0x0A ∷ [])) at.Standard Pressed false false (some (0x0D ∷ 0x0A ∷ [])) (character (0x31 ∷ [])) ∷ [])) ∷
+          (bring us table (message 0x100 0x31 0x20001), answered (Some 0) (Value zero_result) []) ∷
+          (finish us table 0 (Some (message 0x102 0x31 0x20001)), answered None lent []) ∷
+          (bring us table (message 0x102 0x0D 0x20001), answered (Some 0) (Value zero_result) []) ∷
+          (finish us table 0 (Some (message 0x102 0x31 0x20001)), answered None lent []) ∷
+          (bring us table (message 0x102 0x0A 0x20001), answered (Some 0) (Value zero_result) []) ∷
+          (finish us no_ranges 0 None, answered None lent (key_event code.Digit1 (character (0x31 ∷ [])) (Some (0x0D ∷ 0x0A ∷ [])) at.Standard Pressed false false (Some (0x0D ∷ 0x0A ∷ [])) (character (0x31 ∷ [])) ∷ [])) ∷
+          (bring us no_ranges (message 0x100 0x31 0x20001), answered (Some 0) (Value zero_result) []) ∷
+          (finish us no_ranges 0 (Some (message 0x102 0x31 0x20001)), answered None lent []) ∷
+          (bring us no_ranges (message 0x102 0x0D 0x20001), answered (Some 0) (Value zero_result) []) ∷
+          (finish us no_ranges 0 (Some (message 0x102 0x31 0x20001)), answered None lent []) ∷
+          (bring us no_ranges (message 0x102 0x0A 0x20001), answered (Some 0) (Value zero_result) []) ∷
+          (finish us table 0 None, answered None lent (key_event code.Digit1 (character (0x0D ∷ 0x0A ∷ [])) (Some (0x0D ∷ 0x0A ∷ [])) at.Standard Pressed false false (Some (0x0D ∷ 0x0A ∷ [])) (character (0x31 ∷ [])) ∷ [])) ∷
           [];
     }
 
@@ -835,11 +834,11 @@ wide_kind =
     record {
       start = fresh_session;
       calls =
-          (bring us table (message 0x100 0x31 0x20001), answered (some 0) (Value zero_result) []) ∷
-          (finish us table 0 (some (message 0x10100 0x31 0x20001)), answered none lent []) ∷
-          (bring us table (message 0x102 0x31 0x20001), answered (some 0) (Value zero_result) []) ∷
-          (finish us table 0 (some (message 0x10102 0x31 0x20001)), answered none lent (key_event code.Digit1 (character (0x31 ∷ [])) (some (0x31 ∷ [])) at.Standard Pressed false false (some (0x31 ∷ [])) (character (0x31 ∷ [])) ∷ [])) ∷
-          (bring us table (message 0x10100 0x31 0x20001), answered none lent []) ∷
+          (bring us table (message 0x100 0x31 0x20001), answered (Some 0) (Value zero_result) []) ∷
+          (finish us table 0 (Some (message 0x10100 0x31 0x20001)), answered None lent []) ∷
+          (bring us table (message 0x102 0x31 0x20001), answered (Some 0) (Value zero_result) []) ∷
+          (finish us table 0 (Some (message 0x10102 0x31 0x20001)), answered None lent (key_event code.Digit1 (character (0x31 ∷ [])) (Some (0x31 ∷ [])) at.Standard Pressed false false (Some (0x31 ∷ [])) (character (0x31 ∷ [])) ∷ [])) ∷
+          (bring us table (message 0x10100 0x31 0x20001), answered None lent []) ∷
           [];
     }
 
@@ -849,11 +848,11 @@ close_window =
     record {
       start = fresh_session;
       calls =
-          (bring us table (message 0x104 0x73 0x3E0001), answered none lent []) ∷
-          (bring us table (message 0x104 0x10073 0x403E0001), answered (some 0) DefWindowProc []) ∷
-          (finish us table 0 none, answered none lent (key_event code.F4 (named key-F4) none at.Standard Pressed true false none (named key-F4) ∷ [])) ∷
-          (bring us table (message 0x100 0x73 0x3E0001), answered (some 0) (Value zero_result) []) ∷
-          (finish us table 0 none, answered none lent (key_event code.F4 (named key-F4) none at.Standard Pressed false false none (named key-F4) ∷ [])) ∷
+          (bring us table (message 0x104 0x73 0x3E0001), answered None lent []) ∷
+          (bring us table (message 0x104 0x10073 0x403E0001), answered (Some 0) DefWindowProc []) ∷
+          (finish us table 0 None, answered None lent (key_event code.F4 (named key-F4) None at.Standard Pressed true false None (named key-F4) ∷ [])) ∷
+          (bring us table (message 0x100 0x73 0x3E0001), answered (Some 0) (Value zero_result) []) ∷
+          (finish us table 0 None, answered None lent (key_event code.F4 (named key-F4) None at.Standard Pressed false false None (named key-F4) ∷ [])) ∷
           [];
     }
 
@@ -863,8 +862,8 @@ press_by_finish =
     record {
       start = fresh_session;
       calls =
-          (bring odd table (message 0x100 0xB3 0x01), answered (some 0) (Value zero_result) []) ∷
-          (finish moved table 0 none, answered none lent (key_event code.MediaStop (named key-MediaPlayPause) none at.Numpad Pressed false false none (named key-MediaPlayPause) ∷ [])) ∷
+          (bring odd table (message 0x100 0xB3 0x01), answered (Some 0) (Value zero_result) []) ∷
+          (finish moved table 0 None, answered None lent (key_event code.MediaStop (named key-MediaPlayPause) None at.Numpad Pressed false false None (named key-MediaPlayPause) ∷ [])) ∷
           [];
     }
 
@@ -874,8 +873,8 @@ release_by_open =
     record {
       start = fresh_session;
       calls =
-          (bring us table (message 0x101 0x31 0xC0000001), answered (some 0) (Value zero_result) []) ∷
-          (finish moved table 0 none, answered none lent (key_event code.Digit1 (character (0x31 ∷ [])) none at.Standard Released false false none (character (0x31 ∷ [])) ∷ [])) ∷
+          (bring us table (message 0x101 0x31 0xC0000001), answered (Some 0) (Value zero_result) []) ∷
+          (finish moved table 0 None, answered None lent (key_event code.Digit1 (character (0x31 ∷ [])) None at.Standard Released false false None (character (0x31 ∷ [])) ∷ [])) ∷
           [];
     }
 
@@ -885,10 +884,10 @@ release_fake_by_finish =
     record {
       start = fresh_session;
       calls =
-          (bring us table (message 0x101 0x11 0xC01D0001), answered (some 0) (Value zero_result) []) ∷
-          (finish german table 0 (some (message 0x101 0x12 0x1380001)), answered none lent []) ∷
-          (bring german table (message 0x101 0x11 0xC01D0001), answered (some 0) (Value zero_result) []) ∷
-          (finish us table 0 (some (message 0x101 0x12 0x1380001)), answered none lent (key_event code.ControlLeft (named key-Control) none at.Left Released false false none (named key-Control) ∷ [])) ∷
+          (bring us table (message 0x101 0x11 0xC01D0001), answered (Some 0) (Value zero_result) []) ∷
+          (finish german table 0 (Some (message 0x101 0x12 0x1380001)), answered None lent []) ∷
+          (bring german table (message 0x101 0x11 0xC01D0001), answered (Some 0) (Value zero_result) []) ∷
+          (finish us table 0 (Some (message 0x101 0x12 0x1380001)), answered None lent (key_event code.ControlLeft (named key-Control) None at.Left Released false false None (named key-Control) ∷ [])) ∷
           [];
     }
 
@@ -898,11 +897,11 @@ release_fake_any_kind =
     record {
       start = fresh_session;
       calls =
-          (bring german table (message 0x101 0x11 0xC01D0001), answered (some 0) (Value zero_result) []) ∷
-          (finish german table 0 (some (message 0x00 0x12 0x1380001)), answered none lent []) ∷
-          (bring german table (message 0x100 0x11 0x1D0001), answered (some 0) (Value zero_result) []) ∷
-          (finish german table 0 (some (message 0x102 0x12 0x1380001)), answered none lent []) ∷
-          (bring german table (message 0x103 0xB4 0xD0001), answered none (Value zero_result) (key_event code.ControlLeft (named key-Control) none at.Left Pressed false false none (named key-Control) ∷ [])) ∷
+          (bring german table (message 0x101 0x11 0xC01D0001), answered (Some 0) (Value zero_result) []) ∷
+          (finish german table 0 (Some (message 0x00 0x12 0x1380001)), answered None lent []) ∷
+          (bring german table (message 0x100 0x11 0x1D0001), answered (Some 0) (Value zero_result) []) ∷
+          (finish german table 0 (Some (message 0x102 0x12 0x1380001)), answered None lent []) ∷
+          (bring german table (message 0x103 0xB4 0xD0001), answered None (Value zero_result) (key_event code.ControlLeft (named key-Control) None at.Left Pressed false false None (named key-Control) ∷ [])) ∷
           [];
     }
 
@@ -912,8 +911,8 @@ fake_by_lparam =
     record {
       start = fresh_session;
       calls =
-          (bring german table (message 0x101 0x11 0xC01D0001), answered (some 0) (Value zero_result) []) ∷
-          (finish german table 0 (some (message 0x101 0xA5 0xC1000001)), answered none lent (key_event code.ControlLeft (named key-Control) none at.Left Released false false none (named key-Control) ∷ [])) ∷
+          (bring german table (message 0x101 0x11 0xC01D0001), answered (Some 0) (Value zero_result) []) ∷
+          (finish german table 0 (Some (message 0x101 0xA5 0xC1000001)), answered None lent (key_event code.ControlLeft (named key-Control) None at.Left Released false false None (named key-Control) ∷ [])) ∷
           [];
     }
 
@@ -923,10 +922,10 @@ fake_control_alone =
     record {
       start = fresh_session;
       calls =
-          (bring german table (message 0x100 0x0D 0x1C0001), answered (some 0) (Value zero_result) []) ∷
-          (finish german table 0 (some (message 0x100 0x12 0x1380001)), answered none lent (key_event code.Enter (named key-Enter) none at.Standard Pressed false false none (named key-Enter) ∷ [])) ∷
-          (bring german table (message 0x101 0x0D 0xC01C0001), answered (some 0) (Value zero_result) []) ∷
-          (finish german table 0 (some (message 0x100 0x12 0x1380001)), answered none lent (key_event code.Enter (named key-Enter) none at.Standard Released false false none (named key-Enter) ∷ [])) ∷
+          (bring german table (message 0x100 0x0D 0x1C0001), answered (Some 0) (Value zero_result) []) ∷
+          (finish german table 0 (Some (message 0x100 0x12 0x1380001)), answered None lent (key_event code.Enter (named key-Enter) None at.Standard Pressed false false None (named key-Enter) ∷ [])) ∷
+          (bring german table (message 0x101 0x0D 0xC01C0001), answered (Some 0) (Value zero_result) []) ∷
+          (finish german table 0 (Some (message 0x100 0x12 0x1380001)), answered None lent (key_event code.Enter (named key-Enter) None at.Standard Released false false None (named key-Enter) ∷ [])) ∷
           [];
     }
 
@@ -936,12 +935,12 @@ nested_press_completed =
     record {
       start = fresh_session;
       calls =
-          (bring us table (message 0x100 0x31 0x20001), answered (some 0) (Value zero_result) []) ∷
-          (finish us table 0 (some (message 0x102 0x31 0x20001)), answered none lent []) ∷
-          (bring us table (message 0x102 0x61 0x20001), answered (some 0) (Value zero_result) []) ∷
-          (bring us table (message 0x100 0x45 0x120001), answered (some 1) (Value zero_result) []) ∷
-          (finish us table 1 (some (message 0x102 0x31 0x20001)), answered none lent []) ∷
-          (finish us table 0 none, answered none lent (key_event code.KeyE (unidentified (native.Windows 0x12)) none at.Standard Pressed false false none (character (0x65 ∷ [])) ∷ [])) ∷
+          (bring us table (message 0x100 0x31 0x20001), answered (Some 0) (Value zero_result) []) ∷
+          (finish us table 0 (Some (message 0x102 0x31 0x20001)), answered None lent []) ∷
+          (bring us table (message 0x102 0x61 0x20001), answered (Some 0) (Value zero_result) []) ∷
+          (bring us table (message 0x100 0x45 0x120001), answered (Some 1) (Value zero_result) []) ∷
+          (finish us table 1 (Some (message 0x102 0x31 0x20001)), answered None lent []) ∷
+          (finish us table 0 None, answered None lent (key_event code.KeyE (unidentified (native.Windows 0x12)) None at.Standard Pressed false false None (character (0x65 ∷ [])) ∷ [])) ∷
           [];
     }
 
@@ -951,11 +950,11 @@ nested_dead_character =
     record {
       start = fresh_session;
       calls =
-          (bring us table (message 0x100 0x31 0x20001), answered (some 0) (Value zero_result) []) ∷
-          (finish us table 0 (some (message 0x102 0x31 0x20001)), answered none lent []) ∷
-          (bring us table (message 0x102 0x61 0x20001), answered (some 0) (Value zero_result) []) ∷
-          (bring us table (message 0x103 0xB4 0xD0001), answered none (Value zero_result) []) ∷
-          (finish us table 0 none, answered none lent (key_event code.Digit1 (unidentified (native.Windows 0x02)) none at.Standard Pressed false false (some (0x61 ∷ [])) (character (0x31 ∷ [])) ∷ [])) ∷
+          (bring us table (message 0x100 0x31 0x20001), answered (Some 0) (Value zero_result) []) ∷
+          (finish us table 0 (Some (message 0x102 0x31 0x20001)), answered None lent []) ∷
+          (bring us table (message 0x102 0x61 0x20001), answered (Some 0) (Value zero_result) []) ∷
+          (bring us table (message 0x103 0xB4 0xD0001), answered None (Value zero_result) []) ∷
+          (finish us table 0 None, answered None lent (key_event code.Digit1 (unidentified (native.Windows 0x02)) None at.Standard Pressed false false (Some (0x61 ∷ [])) (character (0x31 ∷ [])) ∷ [])) ∷
           [];
     }
 
@@ -965,13 +964,13 @@ outer_press_forgets =
     record {
       start = fresh_session;
       calls =
-          (bring us table (message 0x100 0x31 0x20001), answered (some 0) (Value zero_result) []) ∷
-          (bring us table (message 0x100 0x45 0x120001), answered (some 1) (Value zero_result) []) ∷
-          (finish us table 1 (some (message 0x102 0x31 0x20001)), answered none lent []) ∷
-          (bring us table (message 0x102 0x65 0x20001), answered (some 2) (Value zero_result) []) ∷
-          (finish us table 2 (some (message 0x102 0x31 0x20001)), answered none lent []) ∷
-          (finish us table 0 none, answered none lent (key_event code.Digit1 (unidentified (native.Windows 0x02)) none at.Standard Pressed false false none (character (0x31 ∷ [])) ∷ [])) ∷
-          (bring us table (message 0x102 0x65 0x20001), answered none lent []) ∷
+          (bring us table (message 0x100 0x31 0x20001), answered (Some 0) (Value zero_result) []) ∷
+          (bring us table (message 0x100 0x45 0x120001), answered (Some 1) (Value zero_result) []) ∷
+          (finish us table 1 (Some (message 0x102 0x31 0x20001)), answered None lent []) ∷
+          (bring us table (message 0x102 0x65 0x20001), answered (Some 2) (Value zero_result) []) ∷
+          (finish us table 2 (Some (message 0x102 0x31 0x20001)), answered None lent []) ∷
+          (finish us table 0 None, answered None lent (key_event code.Digit1 (unidentified (native.Windows 0x02)) None at.Standard Pressed false false None (character (0x31 ∷ [])) ∷ [])) ∷
+          (bring us table (message 0x102 0x65 0x20001), answered None lent []) ∷
           [];
     }
 
@@ -981,11 +980,11 @@ fake_press_forgets =
     record {
       start = fresh_session;
       calls =
-          (bring german table (message 0x100 0x31 0x20001), answered (some 0) (Value zero_result) []) ∷
-          (finish german table 0 (some (message 0x102 0x31 0x20001)), answered none lent []) ∷
-          (bring german table (message 0x100 0x11 0x1D0001), answered (some 0) (Value zero_result) []) ∷
-          (finish german table 0 (some (message 0x104 0x12 0x1380001)), answered none lent []) ∷
-          (bring german table (message 0x102 0x31 0x20001), answered none lent []) ∷
+          (bring german table (message 0x100 0x31 0x20001), answered (Some 0) (Value zero_result) []) ∷
+          (finish german table 0 (Some (message 0x102 0x31 0x20001)), answered None lent []) ∷
+          (bring german table (message 0x100 0x11 0x1D0001), answered (Some 0) (Value zero_result) []) ∷
+          (finish german table 0 (Some (message 0x104 0x12 0x1380001)), answered None lent []) ∷
+          (bring german table (message 0x102 0x31 0x20001), answered None lent []) ∷
           [];
     }
 
@@ -995,12 +994,12 @@ dropped_first =
     record {
       start = fresh_session;
       calls =
-          (bring german table (message 0x100 0x11 0x1D0001), answered (some 0) (Value zero_result) []) ∷
-          (bring german table (message 0x101 0x31 0xC0020001), answered (some 1) (Value zero_result) []) ∷
-          (finish german table 1 none, answered none lent []) ∷
-          (bring german table (message 0x100 0x0D 0x1C0001), answered (some 2) (Value zero_result) []) ∷
-          (finish german table 2 none, answered none lent []) ∷
-          (finish german table 0 (some (message 0x100 0x12 0x1380001)), answered none lent (key_event code.Digit1 (character (0x31 ∷ [])) none at.Standard Released false false none (character (0x31 ∷ [])) ∷ key_event code.Enter (named key-Enter) none at.Standard Pressed false false none (named key-Enter) ∷ [])) ∷
+          (bring german table (message 0x100 0x11 0x1D0001), answered (Some 0) (Value zero_result) []) ∷
+          (bring german table (message 0x101 0x31 0xC0020001), answered (Some 1) (Value zero_result) []) ∷
+          (finish german table 1 None, answered None lent []) ∷
+          (bring german table (message 0x100 0x0D 0x1C0001), answered (Some 2) (Value zero_result) []) ∷
+          (finish german table 2 None, answered None lent []) ∷
+          (finish german table 0 (Some (message 0x100 0x12 0x1380001)), answered None lent (key_event code.Digit1 (character (0x31 ∷ [])) None at.Standard Released false false None (character (0x31 ∷ [])) ∷ key_event code.Enter (named key-Enter) None at.Standard Pressed false false None (named key-Enter) ∷ [])) ∷
           [];
     }
 
@@ -1010,12 +1009,12 @@ nested_order =
     record {
       start = fresh_session;
       calls =
-          (bring us table (message 0x101 0x0D 0xC01C0001), answered (some 0) (Value zero_result) []) ∷
-          (bring us table (message 0x101 0x31 0xC0020001), answered (some 1) (Value zero_result) []) ∷
-          (bring us table (message 0x101 0x45 0xC0120001), answered (some 2) (Value zero_result) []) ∷
-          (finish us table 2 none, answered none lent []) ∷
-          (finish us table 1 none, answered none lent []) ∷
-          (finish us table 0 none, answered none lent (key_event code.Enter (named key-Enter) none at.Standard Released false false none (named key-Enter) ∷ key_event code.Digit1 (character (0x31 ∷ [])) none at.Standard Released false false none (character (0x31 ∷ [])) ∷ key_event code.KeyE (character (0x65 ∷ [])) none at.Standard Released false false none (character (0x65 ∷ [])) ∷ [])) ∷
+          (bring us table (message 0x101 0x0D 0xC01C0001), answered (Some 0) (Value zero_result) []) ∷
+          (bring us table (message 0x101 0x31 0xC0020001), answered (Some 1) (Value zero_result) []) ∷
+          (bring us table (message 0x101 0x45 0xC0120001), answered (Some 2) (Value zero_result) []) ∷
+          (finish us table 2 None, answered None lent []) ∷
+          (finish us table 1 None, answered None lent []) ∷
+          (finish us table 0 None, answered None lent (key_event code.Enter (named key-Enter) None at.Standard Released false false None (named key-Enter) ∷ key_event code.Digit1 (character (0x31 ∷ [])) None at.Standard Released false false None (character (0x31 ∷ [])) ∷ key_event code.KeyE (character (0x65 ∷ [])) None at.Standard Released false false None (character (0x65 ∷ [])) ∷ [])) ∷
           [];
     }
 
@@ -1025,14 +1024,14 @@ held_through_focus =
     record {
       start = fresh_session;
       calls =
-          (bring us table (message 0x100 0x31 0x20001), answered (some 0) (Value zero_result) []) ∷
-          (finish us table 0 (some (message 0x102 0x31 0x20001)), answered none lent []) ∷
-          (bring us table (message 0x07 0x00 0x00), answered none lent []) ∷
-          (bring us table (message 0x101 0x45 0xC0120001), answered (some 0) (Value zero_result) []) ∷
-          (finish us table 0 none, answered none lent (key_event code.KeyE (character (0x65 ∷ [])) none at.Standard Released false false none (character (0x65 ∷ [])) ∷ [])) ∷
-          (bring us table (message 0x08 0x00 0x00), answered none lent []) ∷
-          (bring us table (message 0x102 0x31 0x20001), answered (some 0) (Value zero_result) []) ∷
-          (finish us table 0 none, answered none lent (key_event code.Digit1 (character (0x31 ∷ [])) (some (0x31 ∷ [])) at.Standard Pressed false false (some (0x31 ∷ [])) (character (0x31 ∷ [])) ∷ [])) ∷
+          (bring us table (message 0x100 0x31 0x20001), answered (Some 0) (Value zero_result) []) ∷
+          (finish us table 0 (Some (message 0x102 0x31 0x20001)), answered None lent []) ∷
+          (bring us table (message 0x07 0x00 0x00), answered None lent []) ∷
+          (bring us table (message 0x101 0x45 0xC0120001), answered (Some 0) (Value zero_result) []) ∷
+          (finish us table 0 None, answered None lent (key_event code.KeyE (character (0x65 ∷ [])) None at.Standard Released false false None (character (0x65 ∷ [])) ∷ [])) ∷
+          (bring us table (message 0x08 0x00 0x00), answered None lent []) ∷
+          (bring us table (message 0x102 0x31 0x20001), answered (Some 0) (Value zero_result) []) ∷
+          (finish us table 0 None, answered None lent (key_event code.Digit1 (character (0x31 ∷ [])) (Some (0x31 ∷ [])) at.Standard Pressed false false (Some (0x31 ∷ [])) (character (0x31 ∷ [])) ∷ [])) ∷
           [];
     }
 
@@ -1042,11 +1041,11 @@ no_token_kept =
     record {
       start = fresh_session;
       calls =
-          (bring us table (message 0x100 0x31 0x20001), answered (some 0) (Value zero_result) []) ∷
-          (finish us table 0 (some (message 0x102 0x31 0x20001)), answered none lent []) ∷
-          (bring us table (message 0x107 0xB4 0xD0001), answered none (Value zero_result) (key_event code.Digit1 (unidentified (native.Windows 0x02)) none at.Standard Pressed false false none (character (0x31 ∷ [])) ∷ [])) ∷
-          (bring us table (message 0x101 0x45 0xC0120001), answered (some 0) (Value zero_result) []) ∷
-          (finish us table 0 none, answered none lent (key_event code.KeyE (character (0x65 ∷ [])) none at.Standard Released false false none (character (0x65 ∷ [])) ∷ [])) ∷
+          (bring us table (message 0x100 0x31 0x20001), answered (Some 0) (Value zero_result) []) ∷
+          (finish us table 0 (Some (message 0x102 0x31 0x20001)), answered None lent []) ∷
+          (bring us table (message 0x107 0xB4 0xD0001), answered None (Value zero_result) (key_event code.Digit1 (unidentified (native.Windows 0x02)) None at.Standard Pressed false false None (character (0x31 ∷ [])) ∷ [])) ∷
+          (bring us table (message 0x101 0x45 0xC0120001), answered (Some 0) (Value zero_result) []) ∷
+          (finish us table 0 None, answered None lent (key_event code.KeyE (character (0x65 ∷ [])) None at.Standard Released false false None (character (0x65 ∷ [])) ∷ [])) ∷
           [];
     }
 
@@ -1058,7 +1057,7 @@ nothing_held =
       calls =
           (bring us table (message 0x103 0xB4 0xD0001), refused 5) ∷
           (bring us table (message 0x107 0x00 0x00), refused 5) ∷
-          (bring us table (message 0x102 0x31 0x20001), answered none lent []) ∷
+          (bring us table (message 0x102 0x31 0x20001), answered None lent []) ∷
           [];
     }
 
@@ -1069,16 +1068,16 @@ table_refused =
       start = fresh_session;
       calls =
           (bring us no_bytes (message 0x100 0x31 0x20001), refused 11) ∷
-          (bring us table (message 0x100 0x31 0x20001), answered (some 0) (Value zero_result) []) ∷
-          (finish us touching 0 (some (message 0x102 0x31 0x20001)), refused 11) ∷
-          (finish us class_14 7 none, refused 11) ∷
-          (finish us no_ranges 0 (some (message 0x102 0x31 0x20001)), answered none lent []) ∷
+          (bring us table (message 0x100 0x31 0x20001), answered (Some 0) (Value zero_result) []) ∷
+          (finish us touching 0 (Some (message 0x102 0x31 0x20001)), refused 11) ∷
+          (finish us class_14 7 None, refused 11) ∷
+          (finish us no_ranges 0 (Some (message 0x102 0x31 0x20001)), answered None lent []) ∷
           (bring us class_14 (message 0x12 0x00 0x00), refused 11) ∷
           (bring us_busy no_bytes (message 0x07 0x00 0x00), refused 11) ∷
-          (bring us table (message 0x102 0x31 0x20001), answered (some 0) (Value zero_result) []) ∷
-          (finish us no_bytes 0 none, refused 11) ∷
+          (bring us table (message 0x102 0x31 0x20001), answered (Some 0) (Value zero_result) []) ∷
+          (finish us no_bytes 0 None, refused 11) ∷
           (bring us touching (message 0x103 0xB4 0xD0001), refused 11) ∷
-          (finish us table 0 none, answered none lent (key_event code.Digit1 (character (0x31 ∷ [])) (some (0x31 ∷ [])) at.Standard Pressed false false (some (0x31 ∷ [])) (character (0x31 ∷ [])) ∷ [])) ∷
+          (finish us table 0 None, answered None lent (key_event code.Digit1 (character (0x31 ∷ [])) (Some (0x31 ∷ [])) at.Standard Pressed false false (Some (0x31 ∷ [])) (character (0x31 ∷ [])) ∷ [])) ∷
           [];
     }
 
@@ -1088,31 +1087,31 @@ eight_open =
     record {
       start = fresh_session;
       calls =
-          (bring us table (message 0x100 0x31 0x20001), answered (some 0) (Value zero_result) []) ∷
-          (finish us table 0 (some (message 0x102 0x31 0x20001)), answered none lent []) ∷
-          (bring us table (message 0x101 0x31 0xC0020001), answered (some 0) (Value zero_result) []) ∷
-          (bring us table (message 0x101 0x31 0xC0020001), answered (some 1) (Value zero_result) []) ∷
-          (bring us table (message 0x101 0x31 0xC0020001), answered (some 2) (Value zero_result) []) ∷
-          (bring us table (message 0x101 0x31 0xC0020001), answered (some 3) (Value zero_result) []) ∷
-          (bring us table (message 0x101 0x31 0xC0020001), answered (some 4) (Value zero_result) []) ∷
-          (bring us table (message 0x101 0x31 0xC0020001), answered (some 5) (Value zero_result) []) ∷
-          (bring us table (message 0x101 0x31 0xC0020001), answered (some 6) (Value zero_result) []) ∷
-          (bring us table (message 0x101 0x31 0xC0020001), answered (some 7) (Value zero_result) []) ∷
+          (bring us table (message 0x100 0x31 0x20001), answered (Some 0) (Value zero_result) []) ∷
+          (finish us table 0 (Some (message 0x102 0x31 0x20001)), answered None lent []) ∷
+          (bring us table (message 0x101 0x31 0xC0020001), answered (Some 0) (Value zero_result) []) ∷
+          (bring us table (message 0x101 0x31 0xC0020001), answered (Some 1) (Value zero_result) []) ∷
+          (bring us table (message 0x101 0x31 0xC0020001), answered (Some 2) (Value zero_result) []) ∷
+          (bring us table (message 0x101 0x31 0xC0020001), answered (Some 3) (Value zero_result) []) ∷
+          (bring us table (message 0x101 0x31 0xC0020001), answered (Some 4) (Value zero_result) []) ∷
+          (bring us table (message 0x101 0x31 0xC0020001), answered (Some 5) (Value zero_result) []) ∷
+          (bring us table (message 0x101 0x31 0xC0020001), answered (Some 6) (Value zero_result) []) ∷
+          (bring us table (message 0x101 0x31 0xC0020001), answered (Some 7) (Value zero_result) []) ∷
           (bring us table (message 0x102 0x31 0x20001), refused 6) ∷
-          (bring us_control table (message 0x07 0x00 0x00), answered none lent []) ∷
-          (bring us table (message 0x103 0xB4 0xD0001), answered none (Value zero_result) []) ∷
-          (bring us table (message 0x102 0x31 0x20001), answered none lent []) ∷
-          (bring us table (message 0x104 0x73 0x3E0001), answered none lent []) ∷
+          (bring us_control table (message 0x07 0x00 0x00), answered None lent []) ∷
+          (bring us table (message 0x103 0xB4 0xD0001), answered None (Value zero_result) []) ∷
+          (bring us table (message 0x102 0x31 0x20001), answered None lent []) ∷
+          (bring us table (message 0x104 0x73 0x3E0001), answered None lent []) ∷
           (bring us table (message 0x100 0x31 0x20001), refused 6) ∷
           (bring us table (message 0x101 0x31 0xC0020001), refused 6) ∷
-          (finish us table 7 none, answered none lent []) ∷
-          (finish us table 6 none, answered none lent []) ∷
-          (finish us table 5 none, answered none lent []) ∷
-          (finish us table 4 none, answered none lent []) ∷
-          (finish us table 3 none, answered none lent []) ∷
-          (finish us table 2 none, answered none lent []) ∷
-          (finish us table 1 none, answered none lent []) ∷
-          (finish us table 0 none, answered none lent (times 8 (key_event code.Digit1 (character (0x31 ∷ [])) none at.Standard Released false false none (character (0x31 ∷ []))) (key_event code.ControlLeft (named key-Control) none at.Left Pressed false true none (named key-Control) ∷ key_event code.Digit1 (unidentified (native.Windows 0x02)) none at.Standard Pressed false false none (character (0x31 ∷ [])) ∷ []))) ∷
+          (finish us table 7 None, answered None lent []) ∷
+          (finish us table 6 None, answered None lent []) ∷
+          (finish us table 5 None, answered None lent []) ∷
+          (finish us table 4 None, answered None lent []) ∷
+          (finish us table 3 None, answered None lent []) ∷
+          (finish us table 2 None, answered None lent []) ∷
+          (finish us table 1 None, answered None lent []) ∷
+          (finish us table 0 None, answered None lent (times 8 (key_event code.Digit1 (character (0x31 ∷ [])) None at.Standard Released false false None (character (0x31 ∷ []))) (key_event code.ControlLeft (named key-Control) None at.Left Pressed false true None (named key-Control) ∷ key_event code.Digit1 (unidentified (native.Windows 0x02)) None at.Standard Pressed false false None (character (0x31 ∷ [])) ∷ []))) ∷
           [];
     }
 
@@ -1122,44 +1121,44 @@ sixteen_units =
     record {
       start = fresh_session;
       calls =
-          (bring us table (message 0x100 0x31 0x20001), answered (some 0) (Value zero_result) []) ∷
-          (finish us table 0 (some (message 0x102 0x31 0x20001)), answered none lent []) ∷
-          (bring us table (message 0x102 0x61 0x20001), answered (some 0) (Value zero_result) []) ∷
-          (finish us table 0 (some (message 0x102 0x31 0x20001)), answered none lent []) ∷
-          (bring us table (message 0x102 0x61 0x20001), answered (some 0) (Value zero_result) []) ∷
-          (finish us table 0 (some (message 0x102 0x31 0x20001)), answered none lent []) ∷
-          (bring us table (message 0x102 0x61 0x20001), answered (some 0) (Value zero_result) []) ∷
-          (finish us table 0 (some (message 0x102 0x31 0x20001)), answered none lent []) ∷
-          (bring us table (message 0x102 0x61 0x20001), answered (some 0) (Value zero_result) []) ∷
-          (finish us table 0 (some (message 0x102 0x31 0x20001)), answered none lent []) ∷
-          (bring us table (message 0x102 0x61 0x20001), answered (some 0) (Value zero_result) []) ∷
-          (finish us table 0 (some (message 0x102 0x31 0x20001)), answered none lent []) ∷
-          (bring us table (message 0x102 0x61 0x20001), answered (some 0) (Value zero_result) []) ∷
-          (finish us table 0 (some (message 0x102 0x31 0x20001)), answered none lent []) ∷
-          (bring us table (message 0x102 0x61 0x20001), answered (some 0) (Value zero_result) []) ∷
-          (finish us table 0 (some (message 0x102 0x31 0x20001)), answered none lent []) ∷
-          (bring us table (message 0x102 0x61 0x20001), answered (some 0) (Value zero_result) []) ∷
-          (finish us table 0 (some (message 0x102 0x31 0x20001)), answered none lent []) ∷
-          (bring us table (message 0x102 0x61 0x20001), answered (some 0) (Value zero_result) []) ∷
-          (finish us table 0 (some (message 0x102 0x31 0x20001)), answered none lent []) ∷
-          (bring us table (message 0x102 0x61 0x20001), answered (some 0) (Value zero_result) []) ∷
-          (finish us table 0 (some (message 0x102 0x31 0x20001)), answered none lent []) ∷
-          (bring us table (message 0x102 0x61 0x20001), answered (some 0) (Value zero_result) []) ∷
-          (finish us table 0 (some (message 0x102 0x31 0x20001)), answered none lent []) ∷
-          (bring us table (message 0x102 0x61 0x20001), answered (some 0) (Value zero_result) []) ∷
-          (finish us table 0 (some (message 0x102 0x31 0x20001)), answered none lent []) ∷
-          (bring us table (message 0x102 0x61 0x20001), answered (some 0) (Value zero_result) []) ∷
-          (finish us table 0 (some (message 0x102 0x31 0x20001)), answered none lent []) ∷
-          (bring us table (message 0x102 0x61 0x20001), answered (some 0) (Value zero_result) []) ∷
-          (finish us table 0 (some (message 0x102 0x31 0x20001)), answered none lent []) ∷
-          (bring us table (message 0x102 0x61 0x20001), answered (some 0) (Value zero_result) []) ∷
-          (finish us table 0 (some (message 0x102 0x31 0x20001)), answered none lent []) ∷
+          (bring us table (message 0x100 0x31 0x20001), answered (Some 0) (Value zero_result) []) ∷
+          (finish us table 0 (Some (message 0x102 0x31 0x20001)), answered None lent []) ∷
+          (bring us table (message 0x102 0x61 0x20001), answered (Some 0) (Value zero_result) []) ∷
+          (finish us table 0 (Some (message 0x102 0x31 0x20001)), answered None lent []) ∷
+          (bring us table (message 0x102 0x61 0x20001), answered (Some 0) (Value zero_result) []) ∷
+          (finish us table 0 (Some (message 0x102 0x31 0x20001)), answered None lent []) ∷
+          (bring us table (message 0x102 0x61 0x20001), answered (Some 0) (Value zero_result) []) ∷
+          (finish us table 0 (Some (message 0x102 0x31 0x20001)), answered None lent []) ∷
+          (bring us table (message 0x102 0x61 0x20001), answered (Some 0) (Value zero_result) []) ∷
+          (finish us table 0 (Some (message 0x102 0x31 0x20001)), answered None lent []) ∷
+          (bring us table (message 0x102 0x61 0x20001), answered (Some 0) (Value zero_result) []) ∷
+          (finish us table 0 (Some (message 0x102 0x31 0x20001)), answered None lent []) ∷
+          (bring us table (message 0x102 0x61 0x20001), answered (Some 0) (Value zero_result) []) ∷
+          (finish us table 0 (Some (message 0x102 0x31 0x20001)), answered None lent []) ∷
+          (bring us table (message 0x102 0x61 0x20001), answered (Some 0) (Value zero_result) []) ∷
+          (finish us table 0 (Some (message 0x102 0x31 0x20001)), answered None lent []) ∷
+          (bring us table (message 0x102 0x61 0x20001), answered (Some 0) (Value zero_result) []) ∷
+          (finish us table 0 (Some (message 0x102 0x31 0x20001)), answered None lent []) ∷
+          (bring us table (message 0x102 0x61 0x20001), answered (Some 0) (Value zero_result) []) ∷
+          (finish us table 0 (Some (message 0x102 0x31 0x20001)), answered None lent []) ∷
+          (bring us table (message 0x102 0x61 0x20001), answered (Some 0) (Value zero_result) []) ∷
+          (finish us table 0 (Some (message 0x102 0x31 0x20001)), answered None lent []) ∷
+          (bring us table (message 0x102 0x61 0x20001), answered (Some 0) (Value zero_result) []) ∷
+          (finish us table 0 (Some (message 0x102 0x31 0x20001)), answered None lent []) ∷
+          (bring us table (message 0x102 0x61 0x20001), answered (Some 0) (Value zero_result) []) ∷
+          (finish us table 0 (Some (message 0x102 0x31 0x20001)), answered None lent []) ∷
+          (bring us table (message 0x102 0x61 0x20001), answered (Some 0) (Value zero_result) []) ∷
+          (finish us table 0 (Some (message 0x102 0x31 0x20001)), answered None lent []) ∷
+          (bring us table (message 0x102 0x61 0x20001), answered (Some 0) (Value zero_result) []) ∷
+          (finish us table 0 (Some (message 0x102 0x31 0x20001)), answered None lent []) ∷
+          (bring us table (message 0x102 0x61 0x20001), answered (Some 0) (Value zero_result) []) ∷
+          (finish us table 0 (Some (message 0x102 0x31 0x20001)), answered None lent []) ∷
           (bring us table (message 0x102 0x1F600 0x20001), refused 9) ∷
-          (bring us table (message 0x102 0x61 0x20001), answered (some 0) (Value zero_result) []) ∷
-          (finish us table 0 (some (message 0x102 0x31 0x20001)), answered none lent []) ∷
+          (bring us table (message 0x102 0x61 0x20001), answered (Some 0) (Value zero_result) []) ∷
+          (finish us table 0 (Some (message 0x102 0x31 0x20001)), answered None lent []) ∷
           (bring us table (message 0x102 0x61 0x20001), refused 9) ∷
           (bring us table (message 0x102 0xD83D 0x20001), refused 9) ∷
-          (bring us table (message 0x107 0xB4 0xD0001), answered none (Value zero_result) (key_event code.Digit1 (unidentified (native.Windows 0x02)) none at.Standard Pressed false false (some (0x61 ∷ 0x61 ∷ 0x61 ∷ 0x61 ∷ 0x61 ∷ 0x61 ∷ 0x61 ∷ 0x61 ∷ 0x61 ∷ 0x61 ∷ 0x61 ∷ 0x61 ∷ 0x61 ∷ 0x61 ∷ 0x61 ∷ 0x61 ∷ [])) (character (0x31 ∷ [])) ∷ [])) ∷
+          (bring us table (message 0x107 0xB4 0xD0001), answered None (Value zero_result) (key_event code.Digit1 (unidentified (native.Windows 0x02)) None at.Standard Pressed false false (Some (0x61 ∷ 0x61 ∷ 0x61 ∷ 0x61 ∷ 0x61 ∷ 0x61 ∷ 0x61 ∷ 0x61 ∷ 0x61 ∷ 0x61 ∷ 0x61 ∷ 0x61 ∷ 0x61 ∷ 0x61 ∷ 0x61 ∷ 0x61 ∷ [])) (character (0x31 ∷ [])) ∷ [])) ∷
           [];
     }
 
@@ -1169,15 +1168,15 @@ latest_token =
     record {
       start = fresh_session;
       calls =
-          (finish us table 0 none, refused 10) ∷
-          (bring us table (message 0x101 0x0D 0xC01C0001), answered (some 0) (Value zero_result) []) ∷
-          (bring us table (message 0x101 0x31 0xC0020001), answered (some 1) (Value zero_result) []) ∷
-          (finish us table 0 none, refused 10) ∷
-          (finish us table 2 none, refused 10) ∷
-          (finish us table 1 none, answered none lent []) ∷
-          (finish us table 1 none, refused 10) ∷
-          (finish us table 0 none, answered none lent (key_event code.Enter (named key-Enter) none at.Standard Released false false none (named key-Enter) ∷ key_event code.Digit1 (character (0x31 ∷ [])) none at.Standard Released false false none (character (0x31 ∷ [])) ∷ [])) ∷
-          (finish us table 0 none, refused 10) ∷
+          (finish us table 0 None, refused 10) ∷
+          (bring us table (message 0x101 0x0D 0xC01C0001), answered (Some 0) (Value zero_result) []) ∷
+          (bring us table (message 0x101 0x31 0xC0020001), answered (Some 1) (Value zero_result) []) ∷
+          (finish us table 0 None, refused 10) ∷
+          (finish us table 2 None, refused 10) ∷
+          (finish us table 1 None, answered None lent []) ∷
+          (finish us table 1 None, refused 10) ∷
+          (finish us table 0 None, answered None lent (key_event code.Enter (named key-Enter) None at.Standard Released false false None (named key-Enter) ∷ key_event code.Digit1 (character (0x31 ∷ [])) None at.Standard Released false false None (character (0x31 ∷ [])) ∷ [])) ∷
+          (finish us table 0 None, refused 10) ∷
           [];
     }
 
@@ -1185,16 +1184,16 @@ latest_token =
 abbrev pub entries : Example
 entries =
     record {
-      start = record { handed = 255; entries = waiting 0 (press 0x31 (key_lparam 0x20001)) ∷ numbered 1 (times 254 (key_event code.Digit1 (character (0x31 ∷ [])) none at.Standard Released false false none (character (0x31 ∷ []))) []); held = none };
+      start = record { handed = 255; entries = waiting 0 (press 0x31 (key_lparam 0x20001)) ∷ numbered 1 (times 254 (key_event code.Digit1 (character (0x31 ∷ [])) None at.Standard Released false false None (character (0x31 ∷ []))) []); held = None };
       calls =
           (bring us_shift table (message 0x07 0x00 0x00), refused 7) ∷
-          (bring us_control table (message 0x07 0x00 0x00), answered none lent []) ∷
-          (bring us table (message 0x07 0x00 0x00), answered none lent []) ∷
+          (bring us_control table (message 0x07 0x00 0x00), answered None lent []) ∷
+          (bring us table (message 0x07 0x00 0x00), answered None lent []) ∷
           (bring us_control table (message 0x08 0x00 0x00), refused 7) ∷
           (bring us table (message 0x101 0x31 0xC0020001), refused 7) ∷
-          (finish us table 0 none, answered none lent (key_event code.Digit1 (unidentified (native.Windows 0x02)) none at.Standard Pressed false false none (character (0x31 ∷ [])) ∷ times 254 (key_event code.Digit1 (character (0x31 ∷ [])) none at.Standard Released false false none (character (0x31 ∷ []))) (key_event code.ControlLeft (named key-Control) none at.Left Pressed false true none (named key-Control) ∷ []))) ∷
-          (bring us table (message 0x101 0x31 0xC0020001), answered (some 0) (Value zero_result) []) ∷
-          (finish us table 0 none, answered none lent (key_event code.Digit1 (character (0x31 ∷ [])) none at.Standard Released false false none (character (0x31 ∷ [])) ∷ [])) ∷
+          (finish us table 0 None, answered None lent (key_event code.Digit1 (unidentified (native.Windows 0x02)) None at.Standard Pressed false false None (character (0x31 ∷ [])) ∷ times 254 (key_event code.Digit1 (character (0x31 ∷ [])) None at.Standard Released false false None (character (0x31 ∷ []))) (key_event code.ControlLeft (named key-Control) None at.Left Pressed false true None (named key-Control) ∷ []))) ∷
+          (bring us table (message 0x101 0x31 0xC0020001), answered (Some 0) (Value zero_result) []) ∷
+          (finish us table 0 None, answered None lent (key_event code.Digit1 (character (0x31 ∷ [])) None at.Standard Released false false None (character (0x31 ∷ [])) ∷ [])) ∷
           [];
     }
 
@@ -1202,17 +1201,17 @@ entries =
 abbrev pub tokens : Example
 tokens =
     record {
-      start = record { handed = 4095; entries = waiting 0 (press 0x31 (key_lparam 0x20001)) ∷ []; held = none };
+      start = record { handed = 4095; entries = waiting 0 (press 0x31 (key_lparam 0x20001)) ∷ []; held = None };
       calls =
           (bring us_shift table (message 0x07 0x00 0x00), refused 8) ∷
-          (bring us table (message 0x101 0x31 0xC0020001), answered (some 4095) (Value zero_result) []) ∷
+          (bring us table (message 0x101 0x31 0xC0020001), answered (Some 4095) (Value zero_result) []) ∷
           (bring us_control table (message 0x07 0x00 0x00), refused 8) ∷
-          (bring us table (message 0x07 0x00 0x00), answered none lent []) ∷
-          (finish us table 4095 none, answered none lent []) ∷
+          (bring us table (message 0x07 0x00 0x00), answered None lent []) ∷
+          (finish us table 4095 None, answered None lent []) ∷
           (bring us table (message 0x101 0x31 0xC0020001), refused 8) ∷
-          (finish us table 0 none, answered none lent (key_event code.Digit1 (unidentified (native.Windows 0x02)) none at.Standard Pressed false false none (character (0x31 ∷ [])) ∷ key_event code.Digit1 (character (0x31 ∷ [])) none at.Standard Released false false none (character (0x31 ∷ [])) ∷ [])) ∷
-          (bring us table (message 0x101 0x31 0xC0020001), answered (some 0) (Value zero_result) []) ∷
-          (finish us table 0 none, answered none lent (key_event code.Digit1 (character (0x31 ∷ [])) none at.Standard Released false false none (character (0x31 ∷ [])) ∷ [])) ∷
+          (finish us table 0 None, answered None lent (key_event code.Digit1 (unidentified (native.Windows 0x02)) None at.Standard Pressed false false None (character (0x31 ∷ [])) ∷ key_event code.Digit1 (character (0x31 ∷ [])) None at.Standard Released false false None (character (0x31 ∷ [])) ∷ [])) ∷
+          (bring us table (message 0x101 0x31 0xC0020001), answered (Some 0) (Value zero_result) []) ∷
+          (finish us table 0 None, answered None lent (key_event code.Digit1 (character (0x31 ∷ [])) None at.Standard Released false false None (character (0x31 ∷ [])) ∷ [])) ∷
           [];
     }
 

@@ -1,7 +1,6 @@
 -- The values of SCOPE 8.1, as tables, and the test that a row is right.
 -- Assumes nothing.
-use Rattle.std.specs.Prelude.{ℕ, Bool, true, false, not, ◌&&◌, List, [], ◌∷◌, eqb, set, replicate}
-use Rattle.std.proofs.Math.Option.{Option, some, none}
+use Rattle.std.specs.Prelude.{ℕ, Bool, true, false, not, ◌&&◌, List, [], ◌∷◌, eqb, set, replicate, Option, Some, None}
 use Rattle.text.specs.Unicode.{text_of}
 use Rattle.text.specs.Message.{char_units}
 use Rattle.keys.specs.Location.{location_number}
@@ -26,10 +25,10 @@ same_list (x ∷ xs) [] = false
 same_list (x ∷ xs) (y ∷ ys) = eqb x y && same_list xs ys
 
 abbrev pub same_text : Option (List ℕ) → Option (List ℕ) → Bool
-same_text none none = true
-same_text none (some y) = false
-same_text (some x) none = false
-same_text (some x) (some y) = same_list x y
+same_text None None = true
+same_text None (Some y) = false
+same_text (Some x) None = false
+same_text (Some x) (Some y) = same_list x y
 
 abbrev pub each : {A : Type 0} → (A → Bool) → List A → Bool
 each p [] = true
@@ -53,7 +52,7 @@ code_right r = eqb (code_number (key_code_of r.0)) r.1
 -- ---- UTF-16 units: their text
 abbrev pub texts : List (List ℕ × Option (List ℕ))
 texts =
-    (0xD83D ∷ 0xDE00 ∷ [], some (0xF0 ∷ 0x9F ∷ 0x98 ∷ 0x80 ∷ [])) ∷ (0xD83D ∷ [], none) ∷ []
+    (0xD83D ∷ 0xDE00 ∷ [], Some (0xF0 ∷ 0x9F ∷ 0x98 ∷ 0x80 ∷ [])) ∷ (0xD83D ∷ [], None) ∷ []
 
 abbrev pub text_right : List ℕ × Option (List ℕ) → Bool
 text_right r = same_text (text_of r.0) r.1

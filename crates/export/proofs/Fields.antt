@@ -1,9 +1,9 @@
 -- An event's numbers and texts, as they stand in its bytes.
 -- Assumes nothing.
+use Rattle.std.specs.Prelude.{Some}
 use mathlib.Core.Path.{◌≡◌, refl, sym, ap, ◌∙◌}
 use mathlib.Core.Bool.{Bool, true, false, and-eq-true_iff}
 use mathlib.Core.List.{List, [], ◌∷◌}
-use mathlib.Core.Option.{some}
 use Prim.Native.Nat.{ℕ, zero, suc, ◌+◌, ◌^◌, ◌≤◌, ◌<◌}
 use native.Mathlib.Nat.{add-zero}
 use native.Mathlib.Omega.{arith}
@@ -151,12 +151,12 @@ module _ (l : List ℕ) (o : event.ok l ≡ true) where
       )
 
   -- where each number stands
-  plain :
+  pub fields_read :
       num 4 0 l < 2 ^ 32 → get_or l 4 0 < 256 →
       get_or l 5 0 ∷ get_or l 4 0 ∷ num 4 0 l ∷ num 2 6 l ∷ get_or l 8 0 ∷ num 4 9 l ∷ get_or l 111 0 ∷ get_or l 112 0 ∷ get_or l 113 0 ∷ get_or l 114 0 ∷ num 2 164 l ∷ get_or l 166 0
       ∷ num 4 167 l ∷ get_or l 13 0 ∷ get_or l 62 0 ∷ get_or l 115 0 ∷ get_or l 171 0 ∷ [] ≡ fields_of (event.get l)
   unfolding fields_of
-  plain a b =
+  fields_read a b =
       let p = event_parts l o in
       let c = code-fields l code_of a b in
       let k = key-fields TEXT_MOST 6 l p.logical_key in
@@ -168,20 +168,12 @@ module _ (l : List ℕ) (o : event.ok l ≡ true) where
       let w : length ((text_bytes KEY_TEXT_MOST).get (drop 171 l)) ≡ get_or l 171 0 = text-length KEY_TEXT_MOST (drop 171 l) ∙ get_or-drop 171 l 0 0 in
       rw (event_got l, c.0, c.1, c.2, k.0, k.1, k.2, k.3, n.0, n.1, n.2, n.3, location_exact (get_or l 111 0) m.0, state_exact (get_or l 112 0) m.1, flag_exact (get_or l 113 0) m.2, flag_exact (get_or l 114 0) m.3, bytes_from ((text_bytes TEXT_MOST).get (drop 62 l)), bytes_from ((text_bytes TEXT_MOST).get (drop 115 l)), t, u, v, w)
 
-  -- the numbers that the code read, each known by its own equation
-  pub fields_read :
-      {a b c d e f g h i j k m n p q r s : ℕ} → c < 2 ^ 32 → b < 256 →
-      a ≡ get_or l 5 0 → b ≡ get_or l 4 0 → c ≡ num 4 0 l → d ≡ num 2 6 l → e ≡ get_or l 8 0 → f ≡ num 4 9 l → g ≡ get_or l 111 0 → h ≡ get_or l 112 0 → i ≡ get_or l 113 0 → j ≡ get_or l 114 0 → k ≡ num 2 164 l → m ≡ get_or l 166 0 → n ≡ num 4 167 l → p ≡ get_or l 13 0 → q ≡ get_or l 62 0 → r ≡ get_or l 115 0 → s ≡ get_or l 171 0 →
-      a ∷ b ∷ c ∷ d ∷ e ∷ f ∷ g ∷ h ∷ i ∷ j ∷ k ∷ m ∷ n ∷ p ∷ q ∷ r ∷ s ∷ [] ≡ fields_of (event.get l)
-  fields_read v w ea eb ec ed ee ef eg eh ei ej ek em en ep eq er es =
-      rw (ea, eb, ec, ed, ee, ef, eg, eh, ei, ej, ek, em, en, ep, eq, er, es) (plain (rw ec at v) (rw eb at w))
-
   -- ---- a text
 
   -- the text's bytes stand behind its length, within the event
   abbrev Text : ℕ → Type 0
   Text which =
-      (event_text (event.get l) which ≡ some (take (get_or l (text_place which) 0) (drop (text_place which + 1) l)))
+      (event_text (event.get l) which ≡ Some (take (get_or l (text_place which) 0) (drop (text_place which + 1) l)))
       × (get_or l (text_place which) 0 ≤ TEXT_MOST) × (text_place which + 1 + get_or l (text_place which) 0 ≤ ANSWER_EVENT_SIZE)
 
   pub text-read : ANSWER_EVENT_SIZE ≤ length l → (which : ℕ) → which ≤ 3 → Text which

@@ -1,9 +1,9 @@
 -- A host reads exactly the events that a call handed out.
 -- Assumes nothing.
+use Rattle.std.specs.Prelude.{Some, None}
 use mathlib.Core.Path.{◌≡◌, refl, sym, ap, ◌∙◌}
 use mathlib.Core.Bool.{Bool, true, false}
 use mathlib.Core.List.{List, [], ◌∷◌, ◌++◌, append_assoc}
-use mathlib.Core.Option.{some, none}
 use Prim.Native.Nat.{ℕ, zero, suc, ◌+◌, ◌-◌, ◌*◌, ◌≤◌, ◌<◌}
 use native.Mathlib.Omega.{arith}
 use lib.Dec.{ltb}
@@ -34,7 +34,7 @@ Fit e = event_fits e ≡ true
 -- event i of events one behind the other, whatever stands behind them
 each :
     (es : List Event) (r : List ℕ) (i : ℕ) → All Fit es → i < length es →
-    (event.ok (drop (ANSWER_EVENT_SIZE * i) (put_many event es ++ r)) ≡ true) × (some (event.get (drop (ANSWER_EVENT_SIZE * i) (put_many event es ++ r))) ≡ nth es i)
+    (event.ok (drop (ANSWER_EVENT_SIZE * i) (put_many event es ++ r)) ≡ true) × (Some (event.get (drop (ANSWER_EVENT_SIZE * i) (put_many event es ++ r))) ≡ nth es i)
 unfolding put_many nth
 each [] r i f h = let z : ⊥ = omega arith in absurd z
 each (e ∷ es) r zero f h =
@@ -50,7 +50,7 @@ each (e ∷ es) r (suc i) f h =
     ∙ ap (λ (u : List ℕ). drop (ANSWER_EVENT_SIZE * i) u) (drop_at (event.put e) t ANSWER_EVENT_SIZE (event-sound.sized e f.0 ∙ event-width)) in
     rw (append_assoc, d) (each es r i f.1 (omega arith))
 
-past : (es : List Event) (i : ℕ) → length es ≤ i → nth es i ≡ none
+past : (es : List Event) (i : ℕ) → length es ≤ i → nth es i ≡ None
 unfolding nth
 past [] i h = refl
 past (e ∷ es) zero h = let z : ⊥ = omega arith in absurd z
@@ -87,6 +87,6 @@ module _ (es : List Event) (h : length es ≤ ENTRIES_MOST) (f : all_fit es ≡ 
 
 -- so of every call that passed its questions, on a session that keeps the limits
 pub handed-out_back :
-    (s : Session) (g : Given) → KeyboardOk (keyboard_of (inputs_of g)) → Keeps s → first_no (session_questions s g) ≡ none → (i : ℕ) →
+    (s : Session) (g : Given) → KeyboardOk (keyboard_of (inputs_of g)) → Keeps s → first_no (session_questions s g) ≡ None → (i : ℕ) →
     event_at (encode_answer (effect_of s g).events) i ≡ nth (effect_of s g).events i
 handed-out_back s g o k e i = let l = call_leaves s g o k e in events_back (effect_of s g).events l.most l.fits i

@@ -1,3 +1,1 @@
-mod Put
-pub mod Place
 mod Reading

@@ -1,7 +1,6 @@
 -- The events of an answer area, and an event as numbers and texts, as a host reads them.
 -- Assumes nothing.
-use Rattle.std.specs.Prelude.{ℕ, zero, suc, ◌+◌, ◌*◌, Bool, ◌&&◌, List, [], ◌∷◌, eqb, ltb, leb, length, drop}
-use Rattle.std.proofs.Math.Option.{Option, some, none}
+use Rattle.std.specs.Prelude.{ℕ, zero, suc, ◌+◌, ◌*◌, Bool, ◌&&◌, List, [], ◌∷◌, eqb, ltb, leb, length, drop, Option, Some, None}
 use Rattle.area.specs.Pick.{pick}
 use Rattle.area.specs.Look.{assoc}
 use Rattle.area.specs.Bytes.{num}
@@ -30,7 +29,7 @@ is_event x i = is_answer x && (ltb i (num 2 0 x) && event.ok (drop (place i) x))
 
 -- event i of an answer area
 unfoldable pub event_at : List ℕ → ℕ → Option Event
-event_at x i = pick (is_event x i) (some (event.get (drop (place i) x))) none
+event_at x i = pick (is_event x i) (Some (event.get (drop (place i) x))) None
 
 -- ---- an event as numbers
 
@@ -63,8 +62,8 @@ fields_of e =
 
 -- 0 and the numbers; or 1 and what stood there, also where there is room for another number of them
 unfoldable pub fields_left : Option Event → List ℕ → ℕ × List ℕ
-fields_left none f = (1, f)
-fields_left (some e) f = pick (eqb (length f) FIELDS) (0, fields_of e) (1, f)
+fields_left None f = (1, f)
+fields_left (Some e) f = pick (eqb (length f) FIELDS) (0, fields_of e) (1, f)
 
 -- ---- its texts
 
@@ -73,18 +72,18 @@ fields_left (some e) f = pick (eqb (length f) FIELDS) (0, fields_of e) (1, f)
 unfoldable pub event_text : Event → ℕ → Option (List ℕ)
 event_text e which =
     assoc
-    ((0, some (text_in e.logical_key)) ∷ (1, some (bytes_of e.text)) ∷ (2, some (bytes_of e.text_with_all_modifiers)) ∷ (3, some (text_in e.key_without_modifiers)) ∷ [])
-    none
+    ((0, Some (text_in e.logical_key)) ∷ (1, Some (bytes_of e.text)) ∷ (2, Some (bytes_of e.text_with_all_modifiers)) ∷ (3, Some (text_in e.key_without_modifiers)) ∷ [])
+    None
     which
 
 unfoldable pub text_at : Option Event → ℕ → Option (List ℕ)
-text_at none which = none
-text_at (some e) which = event_text e which
+text_at None which = None
+text_at (Some e) which = event_text e which
 
 -- the text's length, and the text in front; or no number and what stood there, also where there is less room than a text may need
 unfoldable pub text_left : Option (List ℕ) → List ℕ → ℕ × List ℕ
-text_left none t = (NONE, t)
-text_left (some b) t = pick (ltb (length t) TEXT_MOST) (NONE, t) (length b, splice 0 b t)
+text_left None t = (NONE, t)
+text_left (Some b) t = pick (ltb (length t) TEXT_MOST) (NONE, t) (length b, splice 0 b t)
 
 -- where a text's length stands in an event's bytes, the text behind it
 unfoldable pub text_place : ℕ → ℕ
@@ -94,6 +93,6 @@ text_place which = assoc ((0, 13) ∷ (1, 62) ∷ (2, 115) ∷ []) 171 which
 
 -- the i-th, from 0
 unfoldable pub nth : List Event → ℕ → Option Event
-nth [] i = none
-nth (e ∷ es) zero = some e
+nth [] i = None
+nth (e ∷ es) zero = Some e
 nth (e ∷ es) (suc i) = nth es i

@@ -1,10 +1,9 @@
 -- The C interface: what the calls leave in numbers, a peeked message, a number of events.
 -- Assumes nothing.
-use Rattle.std.specs.Prelude.{ℕ, ◌≤◌, ◌≡◌, List, eqb}
-use Rattle.std.proofs.Math.Option.{Option, some, none}
+use Rattle.std.specs.Prelude.{ℕ, ◌≤◌, ◌≡◌, List, eqb, Option, Some, None}
 use Rattle.area.specs.Pick.{pick}
 use Rattle.area.specs.Bytes.{num}
-use Rattle.session.specs.Given.{Message}
+use Rattle.session.specs.declared.Message.{Message}
 use Rattle.session.specs.Answers.{Left}
 use Rattle.session.specs.declared.ProcResult.{ProcResult}
 use Rattle.export.specs.Numbers.{NONE, refusal_of, token_number, changed}
@@ -25,7 +24,7 @@ FinishSays refused session answers l = (refused ≡ refusal_of l.said) × (sessi
 
 -- the peeked message, or its absence where `present` is 0
 unfoldable pub peeked_as : ℕ → ℕ → ℕ → ℕ → Option Message
-peeked_as present kind wparam lparam = pick (eqb present 0) none (some (record { kind = kind; wparam = wparam; lparam = lparam }))
+peeked_as present kind wparam lparam = pick (eqb present 0) None (Some (record { kind = kind; wparam = wparam; lparam = lparam }))
 
 -- the number of events of an answer area
 unfoldable pub count_of : List ℕ → ℕ

@@ -1,11 +1,12 @@
 -- What a call answers, as numbers: what stands for a refusal, a token, and what becomes of the message result.
 -- Assumes nothing.
-use Rattle.std.specs.Prelude.{ℕ, [], ◌∷◌, eqb}
+use Rattle.std.specs.Prelude.{ℕ, [], ◌∷◌, eqb, Result, Ok, Err}
 use Rattle.std.specs.Int.{w64}
 use Rattle.std.proofs.Common.{of_z}
 use Rattle.area.specs.Pick.{pick}
 use Rattle.area.specs.Look.{assoc}
-use Rattle.session.specs.Answers.{Said, refusal, token, no_token, zero_result}
+use Rattle.session.specs.Answers.{Said, refusal, token, no_token, zero_result, refusal_number}
+use Rattle.session.specs.declared.Refusal.{Refusal}
 use Rattle.session.specs.declared.ProcResult.{ProcResult}
 use Rattle.session.specs.declared.ProcResult.TheVariants.{DefWindowProc, Value}
 
@@ -18,6 +19,11 @@ unfoldable pub refusal_of : Said → ℕ
 refusal_of (refusal n) = n
 refusal_of (token t) = 0
 refusal_of no_token = 0
+
+-- the same of what a call of the code answers, an open or a finish
+unfoldable pub refused_number : {A : Type 0} → Result A Refusal → ℕ
+refused_number (Ok x) = 0
+refused_number (Err r) = refusal_number r
 
 -- the token that was opened
 unfoldable pub token_number : Said → ℕ

@@ -1,24 +1,43 @@
 // The events of an answer area as numbers and texts, each read in its bytes. docs/AREAS.md has their offsets.
-ghost use Rattle.std.specs.Prelude.{true, List, ◌≡◌, ◌≤◌, ◌<◌, ℕ, length};
-ghost use Rattle.area.specs.Pick.{pick};
+ghost use Rattle.std.specs.Prelude.{true, ◌≡◌, ◌≤◌, length, drop, option_copied, option_map, IfSome};
+ghost use Rattle.std.specs.Bool.{then_some};
+ghost use Rattle.area.specs.Bytes.{num};
 ghost use Rattle.session.specs.Area.{event};
-ghost use Rattle.session.specs.Limits.{ANSWER_EVENT_SIZE as answer_event_size};
-ghost use Rattle.export.specs.Events.{FIELDS as field_count, fields_of, is_answer, is_event, event_at, fields_left, text_place, text_at, text_left};
+ghost use Rattle.session.specs.Limits.{ANSWER_EVENT_SIZE as answer_event_size, TEXT_MOST};
+ghost use Rattle.export.specs.Events.{fields_of, is_answer, is_event, place, event_at, text_place, text_at};
 
-use crate::numbers::NONE;
-use session::{ANSWER_EVENT_SIZE, ANSWER_EVENTS_AT, AREA_SIZE, ENTRIES_MOST, TEXT_MOST};
+use session::{ANSWER_EVENT_SIZE, ANSWER_EVENTS_AT, AREA_SIZE, ENTRIES_MOST};
 
 // How many numbers an event is, as specs/Events names it.
 const FIELDS: usize = 17;
 
-// ---- an event as numbers
+// ---- the area
 
-// A byte as a number of a host.
-fn wide(b: u8) -> u32
-    ensures { (result ≡ b) × (result < 256) }
+// The number of events, where the bytes have an answer area's size and a number that it has room for.
+#[tactic(auto, unfolding(crate::specs::Events::is_answer))]
+pub(crate) fn count(answers: &[u8]) -> Option<u32>
+    ensures { result ≡ then_some (is_answer answers.now) (num 2 0 answers.now) }
 {
-    b as u32
+    if answers.len() != AREA_SIZE {
+        return None;
+    }
+    let events = area::get_u16(answers, 0);
+    (usize::from(events) <= ENTRIES_MOST).then_some(u32::from(events))
 }
+
+// The bytes from event i on, where it is there and they are an event's.
+#[tactic(auto, unfolding(crate::specs::Events::is_answer, crate::specs::Events::is_event))]
+fn event_bytes(answers: &[u8], i: u32) -> Option<&[u8]>
+    ensures { option_copied result ≡ then_some (is_event answers.now i) (drop (place i) answers.now) }
+{
+    if count(answers)? <= i {
+        return None;
+    }
+    let bytes = &answers[ANSWER_EVENTS_AT + ANSWER_EVENT_SIZE * (i as usize)..];
+    questions::check::event_ok(bytes).then_some(bytes)
+}
+
+// ---- an event as numbers
 
 // An event as 17 numbers: physical key, logical key, location, state, repeat, synthetic, key without modifiers, the lengths of the texts.
 fn numbers_at(s: &[u8]) -> [u32; FIELDS]
@@ -26,90 +45,38 @@ fn numbers_at(s: &[u8]) -> [u32; FIELDS]
     ensures { result ≡ fields_of (event.get s.now) }
 {
     [
-        wide(s[5]),
-        wide(s[4]),
+        u32::from(s[5]),
+        u32::from(s[4]),
         area::get_u32(s, 0),
-        area::get_u16(s, 6) as u32,
-        wide(s[8]),
+        u32::from(area::get_u16(s, 6)),
+        u32::from(s[8]),
         area::get_u32(s, 9),
-        wide(s[111]),
-        wide(s[112]),
-        wide(s[113]),
-        wide(s[114]),
-        area::get_u16(s, 164) as u32,
-        wide(s[166]),
+        u32::from(s[111]),
+        u32::from(s[112]),
+        u32::from(s[113]),
+        u32::from(s[114]),
+        u32::from(area::get_u16(s, 164)),
+        u32::from(s[166]),
         area::get_u32(s, 167),
-        wide(s[13]),
-        wide(s[62]),
-        wide(s[115]),
-        wide(s[171]),
+        u32::from(s[13]),
+        u32::from(s[62]),
+        u32::from(s[115]),
+        u32::from(s[171]),
     ]
 }
 
-// Puts the numbers in their places.
-fn put_numbers(fields: &mut [u32], numbers: [u32; FIELDS])
-    requires { length fields.old ≡ field_count }
-    ensures { fields.new ≡ numbers }
+// Event i as 17 numbers.
+#[tactic(auto, unfolding(crate::specs::Events::is_answer, crate::specs::Events::is_event, crate::specs::Events::event_at))]
+pub(crate) fn numbers_of(answers: &[u8], i: u32) -> Option<[u32; FIELDS]>
+    ensures { result ≡ option_map fields_of (event_at answers.now i) }
 {
-    let mut k: usize = 0;
-    while k < FIELDS {
-        fields[k] = numbers[k];
-        k += 1;
-    }
-}
-
-// ---- the area
-
-// Whether the bytes have an answer area's size and a number of events that it has room for.
-pub(crate) fn is_answer(answers: &[u8]) -> bool
-    ensures { result ≡ is_answer answers.now }
-{
-    if answers.len() != AREA_SIZE {
-        return false;
-    }
-    let n = area::get_u16(answers, 0);
-    if ENTRIES_MOST < n as usize {
-        return false;
-    }
-    true
-}
-
-// Whether event i is there, in bytes that are an event's.
-fn is_event(answers: &[u8], i: u32) -> bool
-    ensures { result ≡ is_event answers.now i }
-{
-    if !is_answer(answers) {
-        return false;
-    }
-    let events = area::get_u16(answers, 0);
-    if events as u32 <= i {
-        return false;
-    }
-    let at = ANSWER_EVENTS_AT + ANSWER_EVENT_SIZE * (i as usize);
-    questions::check::event_ok(&answers[at..])
-}
-
-// ---- an event
-
-// Event i as 17 numbers, and that it was read. Where there is no such event, or room for another number of them, the fields stay as they are.
-pub(crate) fn read_event(answers: &[u8], i: u32, fields: &mut [u32]) -> bool
-    ensures { ◌≡◌ {A = ℕ × List ℕ} (pick result 0 1, fields.new) (fields_left (event_at answers.now i) fields.old) }
-{
-    if fields.len() != FIELDS {
-        return false;
-    }
-    if !is_event(answers, i) {
-        return false;
-    }
-    let start = ANSWER_EVENTS_AT + ANSWER_EVENT_SIZE * (i as usize);
-    let numbers = numbers_at(&answers[start..]);
-    put_numbers(fields, numbers);
-    true
+    Some(numbers_at(event_bytes(answers, i)?))
 }
 
 // ---- a text of an event
 
 // The place of a text in an event: its length, then its bytes.
+#[tactic(auto, unfolding(crate::specs::Events::text_place, area::specs::Look::assoc))]
 fn text_place(which: u32) -> usize
     ensures { result ≡ text_place which }
 {
@@ -121,22 +88,17 @@ fn text_place(which: u32) -> usize
     }
 }
 
-// A text of event i, copied to the front of `text`: its length. Where there is no such text, or less room than a text may need: no number,
-// and the bytes stay as they are.
-pub(crate) fn read_text(answers: &[u8], i: u32, which: u32, text: &mut [u8]) -> u32
-    ensures { ◌≡◌ {A = ℕ × List ℕ} (result, text.new) (text_left (text_at (event_at answers.now i) which) text.old) }
+// A text of event i, no longer than a text may be.
+#[tactic(auto, unfolding(crate::specs::Events::is_answer, crate::specs::Events::is_event, crate::specs::Events::event_at, crate::specs::Events::text_at, crate::specs::Events::event_text, area::specs::Look::assoc))]
+pub(crate) fn text_of(answers: &[u8], i: u32, which: u32) -> Option<&[u8]>
+    ensures bytes { option_copied result ≡ text_at (event_at answers.now i) which }
+    ensures size { IfSome result (λ bytes. length bytes.now ≤ TEXT_MOST) }
 {
     if 3 < which {
-        return NONE;
+        return None;
     }
-    if text.len() < TEXT_MOST {
-        return NONE;
-    }
-    if !is_event(answers, i) {
-        return NONE;
-    }
-    let at = ANSWER_EVENTS_AT + ANSWER_EVENT_SIZE * (i as usize) + text_place(which);
-    let n = wide(answers[at]);
-    area::span::copy_part(answers, at + 1, text, 0, n as usize);
-    n
+    let event = event_bytes(answers, i)?;
+    let at = text_place(which);
+    let n = usize::from(event[at]);
+    Some(&event[at + 1..at + 1 + n])
 }

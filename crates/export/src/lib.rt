@@ -12,13 +12,11 @@ ghost use Rattle.session.specs.Limits.{AREA};
 ghost use Rattle.session.specs.Session.{fresh_session};
 ghost use Rattle.session.specs.declared.ProcResult.{ProcResult};
 ghost use Rattle.message.specs.Calls.{inputs, message};
-ghost use Rattle.event.specs.Peeked.{as_peeked};
 ghost use Rattle.export.specs.Events.{event_at, fields_left, text_at, text_left};
 ghost use Rattle.export.specs.Interface.{INTERFACE as interface_number, OpenSays, FinishSays, peeked_as, count_of};
 
 use crate::numbers::NONE;
-use event::peeked::Peeked;
-use session::{PendingMessageToken, ProcResult};
+use session::{Message, PendingMessageToken, ProcResult, TEXT_MOST};
 
 // ---- which interface this is
 
@@ -44,13 +42,15 @@ pub fn mahjonglarch_fresh(session: &mut [u8]) -> u32
 // ---- open and finish
 
 // The peeked message, or its absence where `peeked` is 0.
-fn peeked_at(peeked: u32, kind: u32, wparam: u64, lparam: u64) -> Peeked
-    ensures { as_peeked result ≡ peeked_as peeked kind wparam lparam }
+#[tactic(auto, unfolding(crate::specs::Interface::peeked_as))]
+fn peeked_at(peeked: u32, kind: u32, wparam: u64, lparam: u64) -> Option<Message>
+    ensures { result ≡ peeked_as peeked kind wparam lparam }
 {
-    if peeked == 0 {
-        return Peeked::Nothing;
-    }
-    Peeked::Message(kind, wparam, lparam)
+    (peeked != 0).then_some(Message {
+        kind,
+        wparam,
+        lparam,
+    })
 }
 
 // Takes a message: 0, or the number of the question that refused it. `token` becomes the token of the message that was opened, or
@@ -70,14 +70,15 @@ pub fn mahjonglarch_open(
     ensures { (was : ProcResult) → OpenSays result token.new res.new session.new answers.new (open_of session.old answers.old was (inputs state.now block.now table.now) (message kind wparam lparam)) was }
 {
     let was = ProcResult::Value(1);
-    let a = message::open(
-        session, answers, state, block, table, kind, wparam, lparam, was,
-    );
-    let answer = a.answer;
-    let after = a.result;
-    *token = crate::numbers::token_number(answer);
-    *res = crate::numbers::result_number(after);
-    crate::numbers::open_number(answer)
+    let message = Message {
+        kind,
+        wparam,
+        lparam,
+    };
+    let opened = message::open(session, answers, state, block, table, message, was);
+    *token = crate::numbers::token_number(opened.answer);
+    *res = crate::numbers::result_number(opened.result);
+    crate::numbers::refused_number(opened.answer)
 }
 
 // Finishes the latest open message, which has the token, with the peeked message, or with none where `peeked` is 0: 0, or the number of the
@@ -97,7 +98,7 @@ pub fn mahjonglarch_finish(
     ensures { (was : ProcResult) → FinishSays result session.new answers.new (finish_of session.old answers.old was (inputs state.now block.now table.now) token (peeked_as peeked kind wparam lparam)) }
 {
     let p = peeked_at(peeked, kind, wparam, lparam);
-    let a = message::finish(
+    let finished = message::finish(
         session,
         answers,
         state,
@@ -106,38 +107,46 @@ pub fn mahjonglarch_finish(
         PendingMessageToken(token),
         p,
     );
-    crate::numbers::finish_number(a)
+    crate::numbers::refused_number(finished)
 }
 
 // ---- the events of an answer area
 
 // Their number; 4,294,967,295 where the bytes are no answer area's: another size, or a number above 256.
+#[tactic(auto, unfolding(crate::specs::Interface::count_of))]
 pub fn mahjonglarch_event_count(answers: &[u8]) -> u32
     ensures { result ≡ count_of answers.now }
 {
-    if !crate::events::is_answer(answers) {
-        return NONE;
-    }
-    area::get_u16(answers, 0) as u32
+    crate::events::count(answers).unwrap_or(NONE)
 }
 
 // Event i as 17 numbers: 0. Where there is no such event, its bytes are not an event's, or `fields` has another length than 17: 1, and the
 // fields stay as they are.
+#[tactic(auto, unfolding(crate::specs::Events::fields_left))]
 pub fn mahjonglarch_event(answers: &[u8], i: u32, fields: &mut [u32]) -> u32
     ensures { ◌≡◌ {A = ℕ × List ℕ} (result, fields.new) (fields_left (event_at answers.now i) fields.old) }
 {
-    if crate::events::read_event(answers, i, fields) {
-        0
-    } else {
-        1 // no such event
+    match crate::events::numbers_of(answers, i) {
+        Some(numbers) if fields.len() == numbers.len() => {
+            fields.copy_from_slice(&numbers);
+            0
+        }
+        _ => 1, // no such event
     }
 }
 
 // A text of event i, copied to the front of `text`: its length, 0 where there is none. 0 is the logical key's character, 1 the text, 2 the
 // text with all modifiers, 3 the character of the key without modifiers. Where there is no such event or text, its bytes are not an event's,
 // or `text` has less than 48 bytes: 4,294,967,295, and the bytes stay as they are.
+#[tactic(auto, unfolding(crate::specs::Events::text_left))]
 pub fn mahjonglarch_event_text(answers: &[u8], i: u32, which: u32, text: &mut [u8]) -> u32
     ensures { ◌≡◌ {A = ℕ × List ℕ} (result, text.new) (text_left (text_at (event_at answers.now i) which) text.old) }
 {
-    crate::events::read_text(answers, i, which, text)
+    match crate::events::text_of(answers, i, which) {
+        Some(bytes) if TEXT_MOST <= text.len() => {
+            text[..bytes.len()].copy_from_slice(bytes);
+            bytes.len() as u32
+        }
+        _ => NONE,
+    }
 }

@@ -1,14 +1,15 @@
-// What a call answers, as numbers: the number of the question that refused it, the token, what became of the message result.
+// What a call answers, as the C interface's numbers: of the question that refused it, of the token, of what became of the message result.
 ghost use Rattle.std.specs.Prelude.{◌≡◌};
-ghost use Rattle.session.specs.Answers.{refusal_number, open_said, finish_said};
-ghost use Rattle.export.specs.Numbers.{refusal_of, token_number, change_of};
+ghost use Rattle.session.specs.Answers.{refusal_number, open_said};
+ghost use Rattle.export.specs.Numbers.{refused_number, token_number, change_of};
 
-use session::{FinishAnswer, OpenAnswer, ProcResult, Refusal};
+use session::{PendingMessageToken, ProcResult, Refusal};
 
 // Stands for a number that there is not.
 pub(crate) const NONE: u32 = 0xffff_ffff;
 
-// The number of the question that a refusal answers no.
+// The number of the question that a refusal answers no. No From: its impl would have to stand in `session`, which has no code that runs.
+#[tactic(auto, unfolding(session::specs::Answers::refusal_number))]
 pub fn refusal_number(no: Refusal) -> u32
     ensures { result ≡ refusal_number no }
 {
@@ -27,42 +28,36 @@ pub fn refusal_number(no: Refusal) -> u32
     }
 }
 
-pub(crate) fn open_number(a: OpenAnswer) -> u32
-    ensures { result ≡ refusal_of (open_said a) }
+// The number of the question that refused a call, 0 where none did.
+#[tactic(auto, unfolding(crate::specs::Numbers::refused_number))]
+pub(crate) fn refused_number<T: Drop>(answer: Result<T, Refusal>) -> u32
+    ensures { result ≡ refused_number answer }
 {
-    match a {
-        OpenAnswer::Refused(no) => refusal_number(no),
-        OpenAnswer::Opened(_) => 0,
-        OpenAnswer::OpenedNone => 0,
-    }
-}
-
-pub(crate) fn finish_number(a: FinishAnswer) -> u32
-    ensures { result ≡ refusal_of (finish_said a) }
-{
-    match a {
-        FinishAnswer::Refused(no) => refusal_number(no),
-        FinishAnswer::Finished => 0,
+    match answer {
+        Ok(_) => 0,
+        Err(no) => refusal_number(no),
     }
 }
 
 // The token that was opened; 4,294,967,295 where none was.
-pub(crate) fn token_number(a: OpenAnswer) -> u32
-    ensures { result ≡ token_number (open_said a) }
+#[tactic(auto, unfolding(crate::specs::Numbers::token_number, session::specs::Answers::open_said))]
+pub(crate) fn token_number(answer: Result<Option<PendingMessageToken>, Refusal>) -> u32
+    ensures { result ≡ token_number (open_said answer) }
 {
-    match a {
-        OpenAnswer::Refused(_) => NONE,
-        OpenAnswer::Opened(token) => token.0,
-        OpenAnswer::OpenedNone => NONE,
+    match answer {
+        Ok(Some(token)) => token.0,
+        _ => NONE,
     }
 }
 
 // What became of a message result that was value 1, which no call sets: it stayed, or it is the default procedure's, or value 0.
+#[tactic(auto, unfolding(crate::specs::Numbers::change_of))]
 pub(crate) fn result_number(r: ProcResult) -> u32
     ensures { result ≡ change_of r }
 {
     match r {
         ProcResult::DefWindowProc => 1,
-        ProcResult::Value(v) => if v == 0 { 2 } else { 0 },
+        ProcResult::Value(0) => 2,
+        ProcResult::Value(_) => 0,
     }
 }

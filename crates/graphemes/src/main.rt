@@ -6,26 +6,24 @@
 ghost use Rattle.std.specs.Prelude.{◌≡◌, true};
 ghost use Rattle.segmentation.specs.Layout.{table_ok};
 
-use lines::{Number, behind, find, number_at, part};
+use lines::Numbers;
 use segmentation::break_table::{props_at, table_ok};
-use segmentation::grapheme::Behind;
-use show::{decimal, text};
+use segmentation::grapheme;
 use std::io::Read;
-use std::rt::Runtime;
 use std::{fs, io};
+
+// The most bytes of the table, and of the input, that are read.
+const MOST: u64 = 65536;
 
 // ---- a text in UTF-8
 
-fn scalar_of(n: Number) -> u32 {
-    (n.value % 0x1_0000_0000) as u32
+fn scalar_of(number: u64) -> u32 {
+    (number % 0x1_0000_0000) as u32
 }
 
 // Puts a scalar value behind the bytes that are there, and answers how many there are then; one that has no room is left out.
 fn put_scalar(out: &mut [u8; 256], len: usize, scalar: u32) -> usize {
-    if 252 < len {
-        return len;
-    }
-    if !text::is_scalar(scalar) {
+    if 252 < len || !text::is_scalar(scalar) {
         return len;
     }
     text::put_scalar(out, len, scalar)
@@ -33,17 +31,9 @@ fn put_scalar(out: &mut [u8; 256], len: usize, scalar: u32) -> usize {
 
 // Writes the text of a line, and answers its length.
 fn put_text(line: &[u8], out: &mut [u8; 256]) -> usize {
-    let mut len: usize = 0;
-    let mut at: usize = 0;
-    let mut turn: usize = 0;
-    while turn < line.len() {
-        let n = number_at(line, at);
-        if !n.found {
-            return len;
-        }
-        len = put_scalar(out, len, scalar_of(n));
-        at = n.next;
-        turn += 1;
+    let mut len = 0;
+    for number in Numbers::new(line, 0) {
+        len = put_scalar(out, len, scalar_of(number));
     }
     len
 }
@@ -51,130 +41,75 @@ fn put_text(line: &[u8], out: &mut [u8; 256]) -> usize {
 // ---- a text with its marks
 
 fn show_mark(rt: &impl Print, breaks: bool) -> io::Result<()> {
-    if breaks {
-        text(rt, b"\xC3\xB7")
-    } else {
-        text(rt, b"\xC3\x97")
-    }
+    let mark = if breaks { "÷" } else { "×" };
+    print!(rt; "{mark}")
 }
 
 // A mark, and the scalar value behind it as the line has it.
 fn show_scalar(rt: &impl Print, breaks: bool, digits: &[u8]) -> io::Result<()> {
     show_mark(rt, breaks)?;
-    text(rt, b" ")?;
-    text(rt, digits)?;
-    text(rt, b" ")
+    print!(rt; " ")?;
+    rt.write_all(digits)?;
+    print!(rt; " ")
 }
 
-// Prints the scalar values of a line from a place on with their marks, and answers whether a piece ends before one of them.
-fn show_rest(
-    rt: &impl Print,
-    table: &[u8],
-    line: &[u8],
-    from: usize,
-    first: Behind,
-) -> io::Result<bool>
-    requires { table_ok table.now ≡ true }
-{
-    let mut before = first;
-    let mut several = false;
-    let mut at = from;
-    let mut turn: usize = 0;
-    while turn < line.len() {
-        let n = number_at(line, at);
-        if !n.found {
-            return Ok(several);
-        }
-        let p = props_at(table, scalar_of(n));
-        let breaks = segmentation::grapheme::breaks(before, p);
-        show_scalar(rt, breaks, part(line, behind(line, at), n.next))?;
-        before = segmentation::grapheme::next(before, p);
-        several = several | breaks;
-        at = n.next;
-        turn += 1;
-    }
-    Ok(several)
+// What was read of a line, by what was left of it before and what is left now.
+fn read<'a>(before: &'a [u8], now: &[u8]) -> &'a [u8] {
+    before
+        .get(..before.len().saturating_sub(now.len()))
+        .unwrap_or_default()
 }
 
 // Prints the text of a line with its marks, and answers whether it has several pieces by them.
 fn show_pieces(rt: &impl Print, table: &[u8], line: &[u8]) -> io::Result<bool>
     requires { table_ok table.now ≡ true }
 {
-    let n = number_at(line, 0);
-    show_scalar(rt, true, part(line, 0, n.next))?;
-    let p = props_at(table, scalar_of(n));
-    let several = show_rest(rt, table, line, n.next, segmentation::grapheme::first(p))?;
+    let mut numbers = Numbers::new(line, 0);
+    let first = props_at(table, scalar_of(numbers.next().unwrap_or(0)));
+    show_scalar(rt, true, read(line, numbers.rest))?;
+    let mut behind = grapheme::first(first);
+    let mut several = false;
+    let mut rest = numbers.rest;
+    while let Some(number) = numbers.next() {
+        let props = props_at(table, scalar_of(number));
+        let breaks = grapheme::breaks(behind, props);
+        let digits = read(rest, numbers.rest);
+        show_scalar(rt, breaks, digits.strip_prefix(b" ").unwrap_or(digits))?;
+        behind = grapheme::next(behind, props);
+        several |= breaks;
+        rest = numbers.rest;
+    }
     show_mark(rt, true)?;
-    text(rt, b"\n")?;
+    println!(rt)?;
     Ok(several)
 }
 
-// What several_pieces says of a text, the first bytes of a space.
-fn several_in(table: &[u8], space: &[u8; 256], len: usize) -> bool
+// Prints the text of a line, and answers whether several_pieces says what its marks say.
+fn show_text(rt: &impl Print, table: &[u8], line: &[u8]) -> io::Result<bool>
     requires { table_ok table.now ≡ true }
 {
-    segmentation::several_pieces(table, part(space, 0, len))
-}
-
-// Prints the text of a line: 1 where several_pieces says what its marks say.
-fn show_text(rt: &impl Print, table: &[u8], line: &[u8]) -> io::Result<u64>
-    requires { table_ok table.now ≡ true }
-{
-    let mut space = [0u8; 256];
     let several = show_pieces(rt, table, line)?;
-    let n = put_text(line, &mut space);
-    if several_in(table, &space, n) == several {
-        return Ok(1);
-    }
-    Ok(0)
+    let mut space = [0u8; 256];
+    let len = put_text(line, &mut space);
+    let text = space.get(..len).unwrap_or_default();
+    Ok(segmentation::several_pieces(table, text) == several)
 }
 
 // ---- all texts
 
-fn show_count(rt: &impl Print, texts: u64, agreed: u64) -> io::Result<()> {
-    decimal(rt, texts)?;
-    text(rt, b" texts, several_pieces ")?;
-    if agreed == texts {
-        text(rt, b"agrees\n")
-    } else {
-        text(rt, b"disagrees\n")
-    }
-}
-
 fn show_all(rt: &impl Print, table: &[u8], input: &[u8]) -> io::Result<()>
     requires { table_ok table.now ≡ true }
 {
-    let mut texts: u64 = 0;
-    let mut agreed: u64 = 0;
-    let mut at: usize = 0;
-    let mut turn: usize = 0;
-    while turn < input.len() {
-        let to = find(input, at, b'\n');
-        let line = part(input, at, to);
-        if 0 < line.len() {
-            texts = std::num::wrapping_add_u64(texts, 1);
-            agreed = std::num::wrapping_add_u64(agreed, show_text(rt, table, line)?);
+    let mut texts = 0u64;
+    let mut agree = true;
+    for line in input.split(|b| *b == b'\n') {
+        if !line.is_empty() {
+            texts = texts.wrapping_add(1);
+            agree &= show_text(rt, table, line)?;
         }
-        at = behind(input, to);
-        turn += 1;
     }
-    show_count(rt, texts, agreed)
-}
-
-fn show_input(rt: &impl Runtime, table: &[u8]) -> io::Result<()>
-    requires { table_ok table.now ≡ true }
-{
-    let mut space = Vec::new(rt.alloc());
-    rt.reader().take(65536).read_to_end(&mut space)?;
-    show_all(rt, table, space.as_slice())
-}
-
-fn with_table(rt: &impl Runtime, table: &[u8]) -> io::Result<()> {
-    if table_ok(table) {
-        show_input(rt, table)
-    } else {
-        text(rt, b"unicode.breaks: no break table\n")
-    }
+    let says = if agree { "agrees" } else { "disagrees" };
+    println!(rt; "{texts} texts, several_pieces {says}")
 }
 
 fn main(rt: HostRuntime) -> io::Result<()> {
@@ -182,7 +117,12 @@ fn main(rt: HostRuntime) -> io::Result<()> {
         Ok(file) => file,
         Err(e) => return eprintln!(rt; "unicode.breaks: {e}"),
     };
-    let mut space = Vec::new(rt.alloc());
-    file.take(65536).read_to_end(&mut space)?;
-    with_table(&rt, space.as_slice())
+    let mut table = Vec::new(rt.alloc());
+    file.take(MOST).read_to_end(&mut table)?;
+    if !table_ok(&table) {
+        return println!(rt; "unicode.breaks: no break table");
+    }
+    let mut input = Vec::new(rt.alloc());
+    rt.reader().take(MOST).read_to_end(&mut input)?;
+    show_all(&rt, &table, &input)
 }

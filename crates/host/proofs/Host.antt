@@ -1,9 +1,9 @@
 -- Demand 3 as a host sees it: specs/Host.antt has the statement.
 -- Assumes nothing.
+use Rattle.std.specs.Prelude.{Option, Some}
 use mathlib.Core.Path.{◌≡◌, refl, sym, ap, ◌∙◌}
 use mathlib.Core.Bool.{true, and-eq-true_iff}
 use mathlib.Core.List.{List, [], ◌∷◌, ◌++◌, append-nil, map, map-append}
-use mathlib.Core.Option.{Option, some}
 use Prim.Native.Nat.{ℕ, zero, suc, ◌+◌, ◌≤◌}
 use native.Mathlib.Nat.{zero-add, add-zero, suc-add, add-suc}
 use native.Mathlib.Omega.{arith}
@@ -30,11 +30,11 @@ use Rattle.export.proofs.HandedOut.{counted, events_back}
 
 -- ---- a text
 
-taken : (b t : List ℕ) → length b ≤ TEXT_MOST → TEXT_MOST ≤ length t → text_taken (text_left (some b) t) ≡ some b
+taken : (b t : List ℕ) → length b ≤ TEXT_MOST → TEXT_MOST ≤ length t → text_taken (text_left (Some b) t) ≡ Some b
 unfolding text_taken text_left
 taken b t h k =
     rw (le-ltb (length t) TEXT_MOST k, ne_eqb (length b) NONE (λ z. omega arith), splice_eq b t 0 (omega arith))
-    (ap (λ (l : List ℕ). some l) (take-append_seam b (drop (0 + length b) t)))
+    (ap (λ (l : List ℕ). Some l) (take-append_seam b (drop (0 + length b) t)))
 
 take_most : (n : ℕ) (l : List ℕ) → length (take n l) ≤ n
 take_most zero l = omega arith
@@ -50,13 +50,13 @@ text-taken m e f which h =
     let long : ANSWER_EVENT_SIZE ≤ length l = rw (append-nil (event.put e)) (omega (arith, event-sound.sized e f ∙ event-width)) in
     let r = text-read l back.0 long which h in
     let b : List ℕ = take (get_or l (text_place which) 0) (drop (text_place which + 1) l) in
-    let is : event_text e which ≡ some b = ap (λ (x : Event). event_text x which) (sym back.1) ∙ r.0 in
+    let is : event_text e which ≡ Some b = ap (λ (x : Event). event_text x which) (sym back.1) ∙ r.0 in
     let short : length b ≤ TEXT_MOST = omega (arith, r.1, take_most (get_or l (text_place which) 0) (drop (text_place which + 1) l)) in
     ap (λ (o : Option (List ℕ)). text_taken (text_left o m.text)) is ∙ taken b m.text short m.text_room ∙ sym is
 
 -- ---- an event
 
-event-read : (m : Room) (y : List ℕ) (i : ℕ) (e : Event) → event_fits e ≡ true → event_at y i ≡ some e → event_read m y i ≡ told e
+event-read : (m : Room) (y : List ℕ) (i : ℕ) (e : Event) → event_fits e ≡ true → event_at y i ≡ Some e → event_read m y i ≡ told e
 unfolding event_read told fields_taken fields_left text_at
 event-read m y i e f at =
     rw (at, eq-eqb (length m.fields) FIELDS m.fields_room, text-taken m e f 0 (omega arith), text-taken m e f 1 (omega arith), text-taken m e f 2 (omega arith), text-taken m e f 3 (omega arith))
@@ -70,7 +70,7 @@ unfolding events_read all_fit nth
 from_read m y [] i f at = refl
 from_read m y (e ∷ es) i f at =
     let fits = (and-eq-true_iff (event_fits e) (all_fit es)).0 f in
-    let here : event_at y i ≡ some e = ap (event_at y) (sym (add-zero i)) ∙ at 0 in
+    let here : event_at y i ≡ Some e = ap (event_at y) (sym (add-zero i)) ∙ at 0 in
     let behind : (k : ℕ) → event_at y (suc i + k) ≡ nth es k = λ k. ap (event_at y) (suc-add i k ∙ sym (add-suc i k)) ∙ at (suc k) in
     rw (event-read m y i e fits.0 here, from_read m y es (suc i) fits.1 behind)
 

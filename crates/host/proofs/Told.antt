@@ -1,9 +1,9 @@
 -- An event's bytes are made of the numbers and texts that a host reads, and lead back to it: so equal ones mean equal events.
 -- Assumes nothing.
+use Rattle.std.specs.Prelude.{Option, Some, None}
 use mathlib.Core.Path.{◌≡◌, refl, sym, ap, ◌∙◌}
 use mathlib.Core.Bool.{true}
 use mathlib.Core.List.{List, [], ◌∷◌, ◌++◌, map}
-use mathlib.Core.Option.{Option, some, none}
 use Prim.Native.Nat.{ℕ, ◌+◌, ◌*◌, ◌^◌}
 use native.Mathlib.Omega.{arith}
 use lib.ListN.{get_or}
@@ -28,7 +28,7 @@ module _ (n : List ℕ) (t : List (Option (List ℕ))) where
   at i = get_or n i 0
 
   abbrev bytes : ℕ → List ℕ
-  bytes which = bytes_of (get_or t which none)
+  bytes which = bytes_of (get_or t which None)
 
   -- the bytes of the event with these numbers and texts
   abbrev bytes_by : List ℕ
@@ -55,7 +55,7 @@ event-told e f p q n t =
 told_apart : (e f : Event) → event_fits e ≡ true → event_fits f ≡ true → told e ≡ told f → e ≡ f
 unfolding told
 told_apart e f p q h =
-    let fields : some (fields_of e) ≡ some (fields_of f) = ap (λ (x : Told). x.fields) h in
+    let fields : Some (fields_of e) ≡ Some (fields_of f) = ap (λ (x : Told). x.fields) h in
     let same : fields_of e ≡ fields_of f = cc in
     event-told e f p q same (ap (λ (x : Told). x.texts) h)
 

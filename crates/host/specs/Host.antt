@@ -1,8 +1,7 @@
 -- A host's view: what it reads of the answer areas by `mahjonglarch_event_count`, `_event` and `_event_text`, and that nothing is lost by it.
 -- proofs/Told.antt and proofs/Host.antt have the proofs, `event-told : EventTold` and `host_demand3 : HostDemand3`.
 -- Assumes nothing.
-use Rattle.std.specs.Prelude.{ℕ, zero, suc, ◌≤◌, ◌≡◌, true, List, [], ◌∷◌, ◌++◌, map, eqb, length, take}
-use Rattle.std.proofs.Math.Option.{Option, some, none}
+use Rattle.std.specs.Prelude.{ℕ, zero, suc, ◌≤◌, ◌≡◌, true, List, [], ◌∷◌, ◌++◌, map, eqb, length, take, Option, Some, None}
 use Rattle.area.specs.Pick.{pick}
 use Rattle.session.specs.Limits.{TEXT_MOST}
 use Rattle.session.specs.Event.{Event}
@@ -36,17 +35,17 @@ pub record Told : Type 0 where
 
 -- as it should have it
 unfoldable pub told : Event → Told
-told e = record { fields = some (fields_of e); texts = texts_of e }
+told e = record { fields = Some (fields_of e); texts = texts_of e }
 
 -- ---- what a host reads
 
 -- of what `_event` answers and leaves: the numbers, where it answers 0
 unfoldable pub fields_taken : ℕ × List ℕ → Option (List ℕ)
-fields_taken a = pick (eqb a.0 0) (some a.1) none
+fields_taken a = pick (eqb a.0 0) (Some a.1) None
 
 -- of what `_event_text` answers and leaves: as many bytes as it answers, unless it answers that there is no such text
 unfoldable pub text_taken : ℕ × List ℕ → Option (List ℕ)
-text_taken a = pick (eqb a.0 NONE) none (some (take a.0 a.1))
+text_taken a = pick (eqb a.0 NONE) None (Some (take a.0 a.1))
 
 -- what a host lends the two: room for the numbers and for a text, whatever stands there
 pub record Room : Type 0 where

@@ -1,4 +1,3 @@
 pub mod EachCode
 pub mod Codes
-pub mod Tags
 pub mod CodeKeys

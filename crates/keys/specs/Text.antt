@@ -1,7 +1,6 @@
 -- A key with its text inside, as in tao's Key, and the text that it gives.
 -- Assumes nothing.
-use Rattle.std.specs.Prelude.{ℕ, List, [], ◌∷◌}
-use Rattle.std.proofs.Math.Option.{Option, some, none}
+use Rattle.std.specs.Prelude.{ℕ, List, [], ◌∷◌, Option, Some, None}
 use Rattle.area.specs.Look.{assoc}
 use Rattle.keys.specs.Places.{enter, tab, space, backspace, escape}
 use Rattle.keys.specs.declared.NativeKeyCode.{NativeKeyCode}
@@ -46,16 +45,16 @@ text_in (dead_char c) = []
 unfoldable pub to_text : FullKey → Option (List ℕ)
 to_text (named n) =
     assoc
-    ((enter, some (0x0D ∷ [])) ∷ (backspace, some (0x08 ∷ [])) ∷ (tab, some (0x09 ∷ [])) ∷ (space, some (0x20 ∷ [])) ∷ (escape, some (0x1B ∷ [])) ∷ [])
-    none
+    ((enter, Some (0x0D ∷ [])) ∷ (backspace, Some (0x08 ∷ [])) ∷ (tab, Some (0x09 ∷ [])) ∷ (space, Some (0x20 ∷ [])) ∷ (escape, Some (0x1B ∷ [])) ∷ [])
+    None
     n
-to_text (character t) = some t
-to_text (unidentified c) = none
-to_text dead = none
-to_text (dead_char c) = none
+to_text (character t) = Some t
+to_text (unidentified c) = None
+to_text dead = None
+to_text (dead_char c) = None
 
 -- the text that an answer of to_text stands for, where a character's own is t
 unfoldable pub text_from : List ℕ → KeyText → Option (List ℕ)
-text_from t Nothing = none
-text_from t Own = some t
-text_from t (Byte b) = some (b ∷ [])
+text_from t Nothing = None
+text_from t Own = Some t
+text_from t (Byte b) = Some (b ∷ [])

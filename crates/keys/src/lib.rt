@@ -30,7 +30,7 @@ pub const PAUSE: u16 = 48;
 // places: end
 
 // What the platform calls a physical key.
-#[derive(Clone, Copy)]
+#[derive(Clone, Copy, PartialEq, Eq, Debug)]
 pub enum NativeKeyCode {
     Unidentified,
     Windows(u16),
@@ -40,7 +40,7 @@ pub enum NativeKeyCode {
 }
 
 // Which of several keys of one meaning it is.
-#[derive(Clone, Copy)]
+#[derive(Clone, Copy, PartialEq, Eq, Debug)]
 pub enum KeyLocation {
     Standard,
     Left,
@@ -48,9 +48,9 @@ pub enum KeyLocation {
     Numpad,
 }
 
-// What a key means. tao's Key has more cases than an enum here can have, so its keys without a value are one case,
+// What a key means. tao's Key has 308 cases and an enum here at most 256, so its keys without a value are one case,
 // with their place in tao's Key; a character's text stands beside the key, and Dead(None) and Dead(Some(c)) are Dead and DeadChar(c).
-#[derive(Clone, Copy)]
+#[derive(Clone, Copy, PartialEq, Eq, Debug)]
 pub enum Key {
     Named(u16),
     Character,
@@ -59,8 +59,8 @@ pub enum Key {
     DeadChar(u32),
 }
 
-// The text that a key gives: none, the character's own, or one byte.
-#[derive(Clone, Copy)]
+// The text that a key gives: none, the character's own, or one byte. No Option: what is there would need an enum of its own two cases.
+#[derive(Clone, Copy, PartialEq, Eq, Debug)]
 pub enum KeyText {
     Nothing,
     Own,

@@ -4,7 +4,8 @@
 ghost use Rattle.std.specs.Prelude.{true, ◌≡◌};
 ghost use Rattle.lookup.specs.Block.{block_ok};
 
-use keys::{Key, NativeKeyCode};
+use keys::Key;
+use keys::native_code::NativeFields;
 use lookup::block::block_ok;
 use lookup::keyboard_layout::{LayoutKey, WindowsModifiers, get_key, key_text, scancode_for};
 use lookup::keycode::keycode_from_scancode;
@@ -18,47 +19,36 @@ const MOST: u64 = 65536;
 // The set of modifiers with those bits: Shift 1, Control 2, Alt 4, Caps Lock 8.
 fn modifiers(set: u8) -> WindowsModifiers {
     WindowsModifiers {
-        shift: set % 2 == 1,
-        control: set / 2 % 2 == 1,
-        alt: set / 4 % 2 == 1,
-        caps_lock: set / 8 % 2 == 1,
+        shift: set & 1 != 0,
+        control: set & 2 != 0,
+        alt: set & 4 != 0,
+        caps_lock: set & 8 != 0,
     }
 }
 
-fn show_bytes(rt: &impl Print, t: &[u8]) -> io::Result<()> {
+fn show_bytes(rt: &impl Print, text: &[u8]) -> io::Result<()> {
     print!(rt; "C")?;
-    for byte in t {
-        print!(rt; "{:02x}", wide(*byte))?;
+    for byte in text {
+        print!(rt; "{byte:02x}")?;
     }
     Ok(())
 }
 
-fn wide(x: u8) -> u64 {
-    x as u64
-}
-
-fn show_native(rt: &impl Print, native: NativeKeyCode) -> io::Result<()> {
-    let held = keys::native_code::native_fields(native);
-    print!(rt; "U{}:{:x}", wide(held.kind), held.value)
-}
-
-fn show_key(rt: &impl Print, block: &[u8], k: LayoutKey) -> io::Result<()> {
-    let key = k.key;
-    match key {
+fn show_key(rt: &impl Print, block: &[u8], found: LayoutKey) -> io::Result<()> {
+    match found.key {
         Key::Named(n) => print!(rt; "N{n}"),
-        Key::Character => show_bytes(rt, key_text(block, k)),
-        Key::Unidentified(native) => show_native(rt, native),
+        Key::Character => show_bytes(rt, key_text(block, found)),
+        Key::Unidentified(native) => {
+            let held = NativeFields::from(native);
+            print!(rt; "U{}:{:x}", held.kind, held.value)
+        }
         Key::Dead => print!(rt; "D"),
         Key::DeadChar(c) => print!(rt; "D{c:x}"),
     }
 }
 
-fn show_question(rt: &impl Print, set: u8, on: u8, vkey: u16, scancode: u16) -> io::Result<()> {
-    print!(rt; "{set} {on} {vkey:02x} {scancode:04x} ")
-}
-
 // One virtual key, by the scan code that the block has for it; nothing where it has none.
-fn show(rt: &impl Print, block: &[u8], set: u8, on: u8, vkey: u16) -> io::Result<()>
+fn show(rt: &impl Print, block: &[u8], set: u8, num_lock: bool, vkey: u16) -> io::Result<()>
     requires { block_ok block.now ≡ true }
 {
     let scancode = scancode_for(block, vkey);
@@ -66,17 +56,18 @@ fn show(rt: &impl Print, block: &[u8], set: u8, on: u8, vkey: u16) -> io::Result
         return Ok(());
     }
     let code = keycode_from_scancode(scancode);
-    let k = get_key(block, modifiers(set), on == 1, vkey, scancode, code);
-    show_question(rt, set, on, vkey, scancode)?;
-    show_key(rt, block, k)?;
+    let found = get_key(block, modifiers(set), num_lock, vkey, scancode, code);
+    let on = u8::from(num_lock);
+    print!(rt; "{set} {on} {vkey:02x} {scancode:04x} ")?;
+    show_key(rt, block, found)?;
     println!(rt)
 }
 
-fn show_lock(rt: &impl Print, block: &[u8], set: u8, on: u8) -> io::Result<()>
+fn show_lock(rt: &impl Print, block: &[u8], set: u8, num_lock: bool) -> io::Result<()>
     requires { block_ok block.now ≡ true }
 {
-    for vkey in 0..256u16 {
-        show(rt, block, set, on, vkey)?;
+    for vkey in 0..256 {
+        show(rt, block, set, num_lock, vkey)?;
     }
     Ok(())
 }
@@ -85,10 +76,9 @@ fn show_all(rt: &impl Print, block: &[u8]) -> io::Result<()> {
     if !block_ok(block) {
         return println!(rt; "not a layout block");
     }
-    let sets: [u8; 7] = [0, 1, 2, 4, 6, 8, 9];
-    for set in sets {
-        show_lock(rt, block, set, 0)?;
-        show_lock(rt, block, set, 1)?;
+    for set in [0, 1, 2, 4, 6, 8, 9] {
+        show_lock(rt, block, set, false)?;
+        show_lock(rt, block, set, true)?;
     }
     Ok(())
 }
@@ -100,5 +90,5 @@ fn main(rt: HostRuntime) -> io::Result<()> {
     };
     let mut block = Vec::new(rt.alloc());
     file.take(MOST).read_to_end(&mut block)?;
-    show_all(&rt, block.as_slice())
+    show_all(&rt, &block)
 }

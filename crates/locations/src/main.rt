@@ -14,23 +14,16 @@ use std::io::Read;
 const MOST: u64 = 65536;
 
 // Sixteen codes to a line.
-fn show(rt: &impl Print, block: &[u8], scancode: u16) -> io::Result<()>
-    requires { block_ok block.now ≡ true }
-{
-    let location = get_location(block, scancode);
-    print!(rt; "{}", keys::native_code::location_number(location))?;
-    if scancode % 16 == 15 {
-        println!(rt)?;
-    }
-    Ok(())
-}
-
 fn show_page(rt: &impl Print, block: &[u8], page: u8) -> io::Result<()>
     requires { block_ok block.now ≡ true }
 {
     println!(rt; "page {page:02x}")?;
-    for low in 0..256u16 {
-        show(rt, block, page as u16 * 256 + low % 256)?;
+    for low in 0..=u8::MAX {
+        let location = get_location(block, u16::from_be_bytes([page, low]));
+        print!(rt; "{}", u8::from(location))?;
+        if low % 16 == 15 {
+            println!(rt)?;
+        }
     }
     Ok(())
 }
@@ -39,8 +32,7 @@ fn show_all(rt: &impl Print, block: &[u8]) -> io::Result<()> {
     if !block_ok(block) {
         return println!(rt; "not a layout block");
     }
-    let pages: [u8; 5] = [0x00, 0xE0, 0xE1, 0x01, 0xFF];
-    for page in pages {
+    for page in [0x00, 0xE0, 0xE1, 0x01, 0xFF] {
         show_page(rt, block, page)?;
     }
     Ok(())
@@ -53,5 +45,5 @@ fn main(rt: HostRuntime) -> io::Result<()> {
     };
     let mut block = Vec::new(rt.alloc());
     file.take(MOST).read_to_end(&mut block)?;
-    show_all(&rt, block.as_slice())
+    show_all(&rt, &block)
 }

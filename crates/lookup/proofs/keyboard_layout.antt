@@ -1,4 +1,3 @@
 pub mod Sets
-pub mod Tables
 pub mod Keys
 pub mod Ranges

@@ -1,6 +1,7 @@
 -- The layout block: when bytes are one (question 3), and the maps that they stand for. docs/AREAS.md has the same in words.
 -- Assumes nothing.
-use Rattle.std.specs.Prelude.{ℕ, zero, suc, ◌+◌, ◌-◌, ◌*◌, Bool, true, false, List, [], ◌∷◌, eqb, ltb, length, take, drop, get_or}
+use Rattle.std.specs.Prelude.{ℕ, zero, suc, ◌+◌, ◌-◌, ◌*◌, Bool, true, false, List, [], ◌∷◌, Option, Some, None, eqb, ltb, length, take, drop, get_or}
+use Rattle.std.specs.Option.{option_or}
 use Rattle.area.specs.Pick.{pick}
 use Rattle.area.specs.Bytes.{num}
 use Rattle.area.specs.Walk.{every}
@@ -139,12 +140,22 @@ maps_of x =
       keys = codes_from x MODIFIER_SETS LOCK_LISTS;
     }
 
--- ---- 5. Where the entry with a key stands, of n that start at place `at`; 0 where there is none.
+-- ---- 5. What the code finds in it.
 
-unfoldable pub place_of : ℕ → ℕ → List ℕ → ℕ → ℕ
-place_of zero key l at = 0
-place_of (suc n) key l at = pick (eqb (key_of l) key) at (place_of n key (next_of l) (at + (ENTRY_HEAD + len_of l)))
+-- a cell's number; 0 stands for none
+abbrev pub nonzero : ℕ → Option ℕ
+nonzero n = pick (eqb n 0) None (Some n)
+
+-- where the entry with a key stands, of n that start at place `at`
+unfoldable pub place_of : ℕ → ℕ → List ℕ → ℕ → Option ℕ
+place_of zero key l at = None
+place_of (suc n) key l at = pick (eqb (key_of l) key) (Some at) (place_of n key (next_of l) (at + (ENTRY_HEAD + len_of l)))
 
 -- the same in list j
-unfoldable pub place_in_list : List ℕ → ℕ → ℕ → ℕ
+unfoldable pub place_in_list : List ℕ → ℕ → ℕ → Option ℕ
 place_in_list x j key = place_of (count_at x j) key (drop (start_of x j) x) (start_of x j)
+
+-- where the entry of a key stands: in the Num Lock list, else in the list of the modifiers
+abbrev pub place_for : List ℕ → ℕ → Bool → ℕ → ℕ → Option ℕ
+place_for x mods num_lock vkey key =
+    option_or (place_in_list x (pick num_lock 0 1) vkey) (place_in_list x (LOCK_LISTS + mods) key)

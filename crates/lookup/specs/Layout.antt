@@ -1,31 +1,30 @@
 -- What a layout answers, over its maps: keyboard_layout.rs, in the order of SCOPE 5.1.
 -- Assumes nothing.
-use Rattle.std.specs.Prelude.{ℕ, ◌+◌, ◌-◌, Bool, List, eqb, ltb, take, drop, get_or}
-use Rattle.std.proofs.Math.Option.{Option, some, none}
+use Rattle.std.specs.Prelude.{ℕ, ◌+◌, ◌-◌, Bool, List, eqb, ltb, take, drop, get_or, Option, Some, None}
 use Rattle.area.specs.Pick.{pick}
 use Rattle.area.specs.Bytes.{num}
 use Rattle.keys.specs.Key.{key_at}
 use Rattle.keys.specs.Text.{FullKey, named, unidentified, full}
+use Rattle.keys.specs.declared.Key.{Key}
 use Rattle.keys.specs.declared.NativeKeyCode.TheVariants.{Windows}
 use Rattle.keys.specs.declared.key_code.KeyCode.{KeyCode}
-use Rattle.lookup.specs.Sizes.{LOCK_LISTS, ENTRY_HEAD}
+use Rattle.lookup.specs.Sizes.{ENTRY_HEAD}
 use Rattle.lookup.specs.Maps.{Maps, find, find_code, list_for}
-use Rattle.lookup.specs.Block.{place_in_list}
 use Rattle.lookup.specs.LParam.{ex_scancode}
 use Rattle.lookup.specs.declared.keyboard.KeyLParam.{KeyLParam}
 use Rattle.lookup.specs.declared.keyboard_layout.LayoutKey.{LayoutKey}
 
 -- the value, or else d
 abbrev pub or_else : {A : Type 0} → Option A → A → A
-or_else none d = d
-or_else (some a) d = a
+or_else None d = d
+or_else (Some a) d = a
 
 -- SCOPE 5.1: the non-character key of the virtual key (not for VK_MENU, 12)
 unfoldable pub non_char_key : Maps → ℕ → ℕ
 non_char_key m vkey = pick (eqb vkey 0x12) 0 (get_or m.non_char_keys vkey 0)
 
 abbrev pub as_named : ℕ → Option FullKey
-as_named n = pick (eqb n 0) none (some (named n))
+as_named n = pick (eqb n 0) None (Some (named n))
 
 -- SCOPE 5.1: asked in order are the non-character key of the virtual key, the Num Lock on or off list,
 -- the list for these modifiers and this key code; else the key is unidentified.
@@ -60,6 +59,10 @@ part_of block k = take k.len (drop k.start block)
 abbrev pub key_in : List ℕ → LayoutKey → FullKey
 key_in block k = full k.key (part_of block k)
 
+-- a key without a text
+unfoldable pub bare : Key → LayoutKey
+bare k = record { key = k; start = 0; len = 0 }
+
 -- the key of the entry at a place
 unfoldable pub found_at : List ℕ → ℕ → LayoutKey
 found_at block at =
@@ -68,8 +71,3 @@ found_at block at =
       start = at + ENTRY_HEAD;
       len = get_or block (at + 11) 0;
     }
-
--- the place of a key's entry: in the Num Lock list, else in the list of the modifiers; 0 where neither has one
-abbrev pub place_for : List ℕ → ℕ → Bool → ℕ → ℕ → ℕ
-place_for block mods num_lock vkey key =
-    pick (eqb (place_in_list block (pick num_lock 0 1) vkey) 0) (place_in_list block (LOCK_LISTS + mods) key) (place_in_list block (pick num_lock 0 1) vkey)

@@ -1,7 +1,6 @@
 -- The maps of a keyboard layout, as tao's Layout has them (SCOPE 5.2), and what question 3 asks of them (SCOPE 6.3).
 -- Assumes nothing.
-use Rattle.std.specs.Prelude.{◌≡◌, ℕ, zero, suc, ◌+◌, ◌^◌, Bool, true, false, List, [], ◌∷◌, eqb, ltb, leb, length}
-use Rattle.std.proofs.Math.Option.{Option, some, none}
+use Rattle.std.specs.Prelude.{◌≡◌, ℕ, zero, suc, ◌+◌, ◌^◌, Bool, true, false, List, [], ◌∷◌, eqb, ltb, leb, length, Option, Some, None}
 use Rattle.area.specs.Pick.{pick}
 use Rattle.text.specs.Unicode.{well_formed}
 use Rattle.keys.specs.Key.{key_number, key_fits, named_ok}
@@ -38,13 +37,13 @@ pub record Maps : Type 0 where
 
 -- HashMap::get of a Num Lock list
 unfoldable pub find : ℕ → List Item → Option FullKey
-find key [] = none
-find key (i ∷ r) = pick (eqb i.key key) (some i.value) (find key r)
+find key [] = None
+find key (i ∷ r) = pick (eqb i.key key) (Some i.value) (find key r)
 
 -- HashMap::get of a list by key codes, which are told apart by their numbers
 unfoldable pub find_code : KeyCode → List CodeItem → Option FullKey
-find_code code [] = none
-find_code code (i ∷ r) = pick (eqb (code_key i.code) (code_key code)) (some i.value) (find_code code r)
+find_code code [] = None
+find_code code (i ∷ r) = pick (eqb (code_key i.code) (code_key code)) (Some i.value) (find_code code r)
 
 -- the list at a place; none where there is no such place
 unfoldable pub list_for : ℕ → List (List CodeItem) → List CodeItem

@@ -33,6 +33,7 @@ pub const ENTRY_TEXT_MOST: u8 = 24;
 
 // ---- an entry of a list
 
+#[tactic(auto, unfolding(crate::specs::Maps::len_ok))]
 fn len_ok(number: u16, len: u8) -> bool
     ensures { result ≡ len_ok number len }
 {
@@ -54,124 +55,101 @@ fn list_key_ok(by_vkey: bool, key: u64) -> bool
     keys::key_code::code_key_ok(key)
 }
 
-// The bytes of the entry at the head of l, 0 where there is none.
-fn entry_len(l: &[u8], by_vkey: bool, lo: u64) -> usize
-    ensures { result ≡ pick (entry_ok (list_key_ok by_vkey) lo l.now) (entry_head + len_of l.now) 0 }
+// The bytes of the entry at the head of l, if there is one.
+#[tactic(auto, unfolding(crate::specs::Block::entry_ok))]
+fn entry_len(l: &[u8], by_vkey: bool, lo: u64) -> Option<usize>
+    ensures { result ≡ pick (entry_ok (list_key_ok by_vkey) lo l.now) (Some (entry_head + len_of l.now)) None }
 {
     if l.len() < ENTRY_HEAD {
-        return 0;
+        return None;
     }
     let key = area::get_u64(l, 0);
     if key < lo {
-        return 0;
+        return None;
     }
     if !list_key_ok(by_vkey, key) {
-        return 0;
+        return None;
     }
     let number = area::get_u16(l, 8);
     let value = area::get_u32(l, 12);
     if !keys::key_number::key_ok(number, l[10], value) {
-        return 0;
+        return None;
     }
     if !len_ok(number, l[11]) {
-        return 0;
+        return None;
     }
-    let n = l[11] as usize;
+    let n = usize::from(l[11]);
     if l.len() - ENTRY_HEAD < n {
-        return 0;
+        return None;
     }
     let e = ENTRY_HEAD + n;
     if !text::utf8::well_formed(&l[ENTRY_HEAD..e]) {
-        return 0;
+        return None;
     }
-    e
+    Some(e)
 }
 
 // ---- the block
 
-// Where n entries from start on end, 0 where they are none.
-fn list_end(block: &[u8], by_vkey: bool, n: u16, start: usize) -> usize
+// Where n entries from start on end, if they are entries.
+fn list_end(block: &[u8], by_vkey: bool, n: u16, start: usize) -> Option<usize>
     requires { (start ≤ length block.now) × (length block.now ≤ block_most) }
-    ensures { result ≡ pick (list_ok (list_key_ok by_vkey) n 0 (drop start block.now)) (start + used_of n (drop start block.now)) 0 }
+    ensures { result ≡ pick (list_ok (list_key_ok by_vkey) n 0 (drop start block.now)) (Some (start + used_of n (drop start block.now))) None }
 {
-    let mut left = n;
     let mut at = start;
     let mut lo: u64 = 0;
-    while 0 < left {
-        let e = entry_len(&block[at..], by_vkey, lo);
-        if e == 0 {
-            return 0;
-        }
+    for _ in 0..n {
+        let len = entry_len(&block[at..], by_vkey, lo)?;
         lo = area::get_u64(&block[at..], 0) + 1;
-        at += e;
-        left -= 1;
+        at += len;
     }
-    at
+    Some(at)
 }
 
 fn non_char_ok(n: u16) -> bool
     ensures { result ≡ non_char_ok n }
 {
-    if n == 0 {
-        return true;
-    }
-    keys::key_number::named_ok(n)
+    n == 0 || keys::key_number::named_ok(n)
 }
 
+#[tactic(auto, unfolding(crate::specs::Block::table_ok))]
 fn table_ok(block: &[u8]) -> bool
     requires { head_size ≤ length block.now }
     ensures { result ≡ table_ok block.now }
 {
-    let mut i: usize = 0;
-    while i < VKEYS {
+    for i in 0..VKEYS {
         if !non_char_ok(area::get_u16(block, CELLS_AT + 2 * i)) {
             return false;
         }
-        i += 1;
     }
     true
 }
 
+#[tactic(auto, unfolding(crate::specs::Block::lists_ok))]
 fn lists_ok(block: &[u8]) -> bool
     requires { (head_size ≤ length block.now) × (length block.now ≤ block_most) }
     ensures { result ≡ lists_ok block.now }
 {
-    let mut j: usize = 0;
-    let mut at: usize = HEAD;
-    while j < LISTS {
+    let mut at = HEAD;
+    for j in 0..LISTS {
         let n = area::get_u16(block, COUNTS_AT + 2 * j);
-        let size = area::get_u16(block, SIZES_AT + 2 * j) as usize;
-        let e = list_end(block, j < LOCK_LISTS, n, at);
-        if e == 0 {
+        let size = usize::from(area::get_u16(block, SIZES_AT + 2 * j));
+        if list_end(block, j < LOCK_LISTS, n, at) != Some(at + size) {
             return false;
         }
-        if e - at != size {
-            return false;
-        }
-        at = e;
-        j += 1;
+        at += size;
     }
     at == block.len()
 }
 
 // SCOPE 6.3: whether the bytes are a layout block.
+#[tactic(auto, unfolding(crate::specs::Block::block_ok))]
 pub fn block_ok(block: &[u8]) -> bool
     ensures { result ≡ block_ok block.now }
 {
-    if BLOCK_MOST < block.len() {
-        return false;
-    }
-    if block.len() < HEAD {
-        return false;
-    }
-    if 1 < block[0] {
-        return false;
-    }
-    if block[1] != 0 {
-        return false;
-    }
-    if !table_ok(block) {
-        return false;
-    }
-    lists_ok(block)
+    (HEAD..=BLOCK_MOST).contains(&block.len())
+        && block[0] <= 1
+        && block[1] == 0
+        && table_ok(block)
+        && lists_ok(block)
 }

@@ -9,13 +9,14 @@ use keys::KeyLocation;
 
 // ---- lParam and wParam
 
-#[derive(Clone, Copy)]
+#[derive(Clone, Copy, PartialEq, Eq, Debug)]
 pub struct KeyLParam {
     pub scancode: u8,
     pub extended: bool,
     pub is_repeat: bool,
 }
 
+#[tactic(auto, unfolding(crate::specs::LParam::key_lparam))]
 pub fn destructure_key_lparam(lparam: u64) -> KeyLParam
     ensures { result ≡ key_lparam lparam }
 {
@@ -28,16 +29,14 @@ pub fn destructure_key_lparam(lparam: u64) -> KeyLParam
     }
 }
 
+#[tactic(auto, unfolding(crate::specs::LParam::ex_scancode))]
 fn new_ex_scancode(scancode: u8, extended: bool) -> u16
     ensures { result ≡ ex_scancode scancode extended }
 {
-    if extended {
-        scancode as u16 + 0xE000
-    } else {
-        scancode as u16
-    }
+    u16::from(scancode) + if extended { 0xE000 } else { 0 }
 }
 
+#[tactic(auto, unfolding(crate::specs::LParam::key_lparam, crate::specs::LParam::ex_scancode_of))]
 pub fn ex_scancode_from_lparam(lparam: u64) -> u16
     ensures { result ≡ ex_scancode_of lparam }
 {
@@ -45,6 +44,7 @@ pub fn ex_scancode_from_lparam(lparam: u64) -> u16
     new_ex_scancode(next.scancode, next.extended)
 }
 
+#[tactic(auto, unfolding(crate::specs::LParam::virtual_key))]
 pub fn virtual_key(wparam: u64) -> u16
     ensures { result ≡ virtual_key wparam }
 {
@@ -54,6 +54,7 @@ pub fn virtual_key(wparam: u64) -> u16
 // ---- scan code and location
 
 // SCOPE 3.1: the scan code of a press or a release, the block's where the message carries none.
+#[tactic(auto, unfolding(crate::specs::Layout::message_scancode))]
 pub fn message_scancode(block: &[u8], vkey: u16, l: KeyLParam) -> u16
     requires { block_ok block.now ≡ true }
     ensures { result ≡ message_scancode (maps_of block.now) vkey l }
@@ -65,7 +66,7 @@ pub fn message_scancode(block: &[u8], vkey: u16, l: KeyLParam) -> u16
 }
 
 // Where a virtual key belongs, before the scan code's page is looked at.
-#[derive(Clone, Copy)]
+#[derive(Clone, Copy, PartialEq, Eq, Debug)]
 enum VkeyPlace {
     Left,
     Right,
@@ -75,75 +76,35 @@ enum VkeyPlace {
     Other,
 }
 
+#[tactic(auto, unfolding(crate::specs::Location::vkey_place, crate::specs::Location::places, area::specs::Look::assoc))]
 fn vkey_place(vkey: u16) -> VkeyPlace
     ensures { result ≡ vkey_place vkey }
 {
     match vkey {
-        0xA0 => VkeyPlace::Left,
-        0xA2 => VkeyPlace::Left,
-        0xA4 => VkeyPlace::Left,
-        0x5B => VkeyPlace::Left,
-        0xA1 => VkeyPlace::Right,
-        0xA3 => VkeyPlace::Right,
-        0xA5 => VkeyPlace::Right,
-        0x5C => VkeyPlace::Right,
+        0xA0 | 0xA2 | 0xA4 | 0x5B => VkeyPlace::Left,
+        0xA1 | 0xA3 | 0xA5 | 0x5C => VkeyPlace::Right,
         0x0D => VkeyPlace::Enter,
-        0x2D => VkeyPlace::Editing,
-        0x2E => VkeyPlace::Editing,
-        0x23 => VkeyPlace::Editing,
-        0x28 => VkeyPlace::Editing,
-        0x22 => VkeyPlace::Editing,
-        0x25 => VkeyPlace::Editing,
-        0x0C => VkeyPlace::Editing,
-        0x27 => VkeyPlace::Editing,
-        0x24 => VkeyPlace::Editing,
-        0x26 => VkeyPlace::Editing,
-        0x21 => VkeyPlace::Editing,
-        0x60 => VkeyPlace::Numpad,
-        0x61 => VkeyPlace::Numpad,
-        0x62 => VkeyPlace::Numpad,
-        0x63 => VkeyPlace::Numpad,
-        0x64 => VkeyPlace::Numpad,
-        0x65 => VkeyPlace::Numpad,
-        0x66 => VkeyPlace::Numpad,
-        0x67 => VkeyPlace::Numpad,
-        0x68 => VkeyPlace::Numpad,
-        0x69 => VkeyPlace::Numpad,
-        0x6E => VkeyPlace::Numpad,
-        0x6F => VkeyPlace::Numpad,
-        0x6A => VkeyPlace::Numpad,
-        0x6D => VkeyPlace::Numpad,
-        0x6B => VkeyPlace::Numpad,
-        0xC2 => VkeyPlace::Numpad,
+        0x0C | 0x21..=0x28 | 0x2D | 0x2E => VkeyPlace::Editing,
+        0x60..=0x6B | 0x6D..=0x6F | 0xC2 => VkeyPlace::Numpad,
         _ => VkeyPlace::Other,
     }
 }
 
+#[tactic(auto, unfolding(crate::specs::Location::location_in))]
 fn location_in(place: VkeyPlace, extended: bool) -> KeyLocation
     ensures { result ≡ location_in place extended }
 {
     match place {
         VkeyPlace::Left => KeyLocation::Left,
         VkeyPlace::Right => KeyLocation::Right,
-        VkeyPlace::Enter => {
-            if extended {
-                KeyLocation::Numpad
-            } else {
-                KeyLocation::Standard
-            }
-        }
-        VkeyPlace::Editing => {
-            if extended {
-                KeyLocation::Standard
-            } else {
-                KeyLocation::Numpad
-            }
-        }
+        VkeyPlace::Enter if extended => KeyLocation::Numpad,
+        VkeyPlace::Editing if !extended => KeyLocation::Numpad,
         VkeyPlace::Numpad => KeyLocation::Numpad,
-        VkeyPlace::Other => KeyLocation::Standard,
+        VkeyPlace::Enter | VkeyPlace::Editing | VkeyPlace::Other => KeyLocation::Standard,
     }
 }
 
+#[tactic(auto, unfolding(crate::specs::Location::location_of, crate::specs::Location::extended_code))]
 pub fn get_location(block: &[u8], scancode: u16) -> KeyLocation
     requires { block_ok block.now ≡ true }
     ensures { result ≡ location_of (maps_of block.now) scancode }

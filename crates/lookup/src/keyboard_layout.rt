@@ -1,9 +1,9 @@
 // tao's keyboard_layout.rs over the lent layout block: the modifiers of a key state, the layout's tables, get_key and a key's text.
 ghost use Rattle.std.specs.Prelude.{true, ◌≡◌, ◌≤◌, ◌<◌, ◌+◌, length, drop};
 ghost use Rattle.area.specs.Pick.{pick};
-ghost use Rattle.lookup.specs.Sizes.{BLOCK_MOST, LISTS, CELLS, HEAD as head_size, ENTRY_HEAD as entry_head};
-ghost use Rattle.lookup.specs.Block.{cell_at, block_ok, maps_of, list_key_ok, list_ok, start_of, place_of, place_in_list};
-ghost use Rattle.lookup.specs.Layout.{non_char_key, scan_code_for, vkey_for, get_key, part_of, key_in, found_at, place_for};
+ghost use Rattle.lookup.specs.Sizes.{BLOCK_MOST, MODIFIER_SETS, LISTS, CELLS, HEAD as head_size, ENTRY_HEAD as entry_head};
+ghost use Rattle.lookup.specs.Block.{cell_at, block_ok, maps_of, list_key_ok, list_ok, start_of, nonzero, place_of, place_in_list, place_for};
+ghost use Rattle.lookup.specs.Layout.{non_char_key, scan_code_for, vkey_for, get_key, part_of, key_in, bare, found_at};
 ghost use Rattle.lookup.specs.Modifiers.{down, toggled, any_down, active_modifiers, num_lock_on, caps_lock_on, remove_only_ctrl, bits_of};
 
 use crate::block::{
@@ -14,7 +14,7 @@ use keys::{Key, NativeKeyCode};
 
 // ---- key state and modifiers
 
-#[derive(Clone, Copy)]
+#[derive(Clone, Copy, PartialEq, Eq, Debug)]
 pub struct WindowsModifiers {
     pub shift: bool,
     pub control: bool,
@@ -23,42 +23,35 @@ pub struct WindowsModifiers {
 }
 
 // Whether a key is down; one past the key state is not.
+#[tactic(auto, unfolding(crate::specs::Modifiers::down))]
 pub fn is_down(state: &[u8], vk: usize) -> bool
     ensures { result ≡ down state.now vk }
 {
-    if state.len() <= vk {
-        return false;
-    }
-    state[vk] / 128 % 2 == 1
+    vk < state.len() && state[vk] / 128 % 2 == 1
 }
 
+#[tactic(auto, unfolding(crate::specs::Modifiers::toggled))]
 fn is_toggled(state: &[u8], vk: usize) -> bool
     ensures { result ≡ toggled state.now vk }
 {
-    if state.len() <= vk {
-        return false;
-    }
-    state[vk] % 2 == 1
+    vk < state.len() && state[vk] % 2 == 1
 }
 
+#[tactic(auto, unfolding(crate::specs::Modifiers::any_down))]
 fn any_down(state: &[u8], key: usize, left: usize, right: usize) -> bool
     ensures { result ≡ any_down state.now key left right }
 {
-    if is_down(state, key) {
-        return true;
-    }
-    if is_down(state, left) {
-        return true;
-    }
-    is_down(state, right)
+    is_down(state, key) || is_down(state, left) || is_down(state, right)
 }
 
+#[tactic(auto, unfolding(crate::specs::Modifiers::num_lock_on))]
 pub fn num_lock_on(state: &[u8]) -> bool
     ensures { result ≡ num_lock_on state.now }
 {
     is_toggled(state, 0x90)
 }
 
+#[tactic(auto, unfolding(crate::specs::Modifiers::caps_lock_on))]
 pub fn caps_lock_on(state: &[u8]) -> bool
     ensures { result ≡ caps_lock_on state.now }
 {
@@ -66,21 +59,19 @@ pub fn caps_lock_on(state: &[u8]) -> bool
 }
 
 impl WindowsModifiers {
+    #[tactic(auto, unfolding(crate::specs::Modifiers::active_modifiers))]
     pub fn active_modifiers(state: &[u8]) -> Self
         ensures { result ≡ active_modifiers state.now }
     {
-        let shift = any_down(state, 0x10, 0xA0, 0xA1);
-        let control = any_down(state, 0x11, 0xA2, 0xA3);
-        let alt = any_down(state, 0x12, 0xA4, 0xA5);
-        let caps_lock = caps_lock_on(state);
         Self {
-            shift,
-            control,
-            alt,
-            caps_lock,
+            shift: any_down(state, 0x10, 0xA0, 0xA1),
+            control: any_down(state, 0x11, 0xA2, 0xA3),
+            alt: any_down(state, 0x12, 0xA4, 0xA5),
+            caps_lock: caps_lock_on(state),
         }
     }
 
+    #[tactic(auto, unfolding(crate::specs::Modifiers::remove_only_ctrl))]
     pub fn remove_only_ctrl(self) -> Self
         ensures { result ≡ remove_only_ctrl self }
     {
@@ -88,36 +79,47 @@ impl WindowsModifiers {
             return self;
         }
         Self {
-            shift: self.shift,
             control: false,
-            alt: self.alt,
-            caps_lock: self.caps_lock,
+            ..self
         }
     }
 
     // The set as a number: Shift 1, Control 2, Alt 4, Caps Lock 8.
+    #[tactic(auto, unfolding(crate::specs::Modifiers::bits_of))]
     fn bits(self) -> usize
-        ensures { result ≡ bits_of self }
+        ensures value { result ≡ bits_of self }
+        ensures below { result < MODIFIER_SETS }
     {
-        weight(self.shift, 1)
-            + (weight(self.control, 2) + (weight(self.alt, 4) + weight(self.caps_lock, 8)))
+        usize::from(self.shift)
+            + 2 * usize::from(self.control)
+            + 4 * usize::from(self.alt)
+            + 8 * usize::from(self.caps_lock)
     }
-}
-
-fn weight(on: bool, n: usize) -> usize
-    ensures { (result ≡ pick on n 0) × (result ≤ n) }
-{
-    if on { n } else { 0 }
 }
 
 // ---- what a layout answers
 
-// A key of the layout. The text of a character is the part of the block from start, len bytes long.
-#[derive(Clone, Copy)]
+// A key of the layout. The text of a character is the part of the block from start, len bytes long: SCOPE 10.1 hands it out by key_text, and
+// key_in, which says what such a key means, is over any block.
+#[derive(Clone, Copy, PartialEq, Eq, Debug)]
 pub struct LayoutKey {
     pub key: Key,
     pub start: usize,
     pub len: usize,
+}
+
+impl LayoutKey {
+    // A key without a text.
+    #[tactic(auto, unfolding(crate::specs::Layout::bare))]
+    fn bare(key: Key) -> Self
+        ensures { result ≡ bare key }
+    {
+        Self {
+            key,
+            start: 0,
+            len: 0,
+        }
+    }
 }
 
 // ---- its tables
@@ -129,6 +131,7 @@ fn cell(block: &[u8], i: usize) -> u16
     area::get_u16(block, CELLS_AT + 2 * i)
 }
 
+#[tactic(auto, using(crate::proofs::block::Passed::headed), unfolding(crate::specs::Block::maps_of))]
 pub fn has_alt_graph(block: &[u8]) -> bool
     requires { block_ok block.now ≡ true }
     ensures { result ≡ (maps_of block.now).has_alt_graph }
@@ -137,11 +140,12 @@ pub fn has_alt_graph(block: &[u8]) -> bool
 }
 
 // MapVirtualKeyExW with MAPVK_VK_TO_VSC_EX.
+#[tactic(auto, using(crate::proofs::block::Passed::headed, crate::proofs::block::Read::scan_at, crate::proofs::block::Read::scan_past), unfolding(crate::specs::Layout::scan_code_for))]
 pub fn scancode_for(block: &[u8], vkey: u16) -> u16
     requires { block_ok block.now ≡ true }
     ensures { result ≡ scan_code_for (maps_of block.now) vkey }
 {
-    let i = vkey as usize;
+    let i = usize::from(vkey);
     if VKEYS <= i {
         return 0;
     }
@@ -149,11 +153,12 @@ pub fn scancode_for(block: &[u8], vkey: u16) -> u16
 }
 
 // MapVirtualKeyExW with MAPVK_VSC_TO_VK_EX.
+#[tactic(auto, using(crate::proofs::block::Passed::headed, crate::proofs::block::Read::vkey_at), unfolding(crate::specs::Layout::vkey_for))]
 pub fn vkey_for(block: &[u8], scancode: u16) -> u16
     requires { block_ok block.now ≡ true }
     ensures { result ≡ vkey_for (maps_of block.now) scancode }
 {
-    let i = scancode as usize;
+    let i = usize::from(scancode);
     if i < 0x100 {
         return cell(block, PAGES_FROM + i);
     }
@@ -166,58 +171,58 @@ pub fn vkey_for(block: &[u8], scancode: u16) -> u16
     0
 }
 
-// The place of the non-character key of a virtual key, 0 where there is none.
-fn non_char_key(block: &[u8], vkey: u16) -> u16
+// The non-character key of a virtual key, if it has one.
+#[tactic(auto, using(crate::proofs::block::Passed::headed, crate::proofs::block::Read::non_char_at, crate::proofs::block::Read::non_char_past), unfolding(crate::specs::Layout::non_char_key))]
+fn non_char_key(block: &[u8], vkey: u16) -> Option<u16>
     requires { block_ok block.now ≡ true }
-    ensures { result ≡ non_char_key (maps_of block.now) vkey }
+    ensures { result ≡ nonzero (non_char_key (maps_of block.now) vkey) }
 {
     if vkey == 0x12 {
-        return 0;
+        return None;
     }
-    let i = vkey as usize;
+    let i = usize::from(vkey);
     if VKEYS <= i {
-        return 0;
+        return None;
     }
-    cell(block, i)
+    match cell(block, i) {
+        0 => None,
+        place => Some(place),
+    }
 }
 
 // ---- get_key, and the text of a key
 
 // Where list j starts.
+#[tactic(auto, using(crate::proofs::block::Lists::start_step), unfolding(crate::specs::Block::start_of))]
 fn start_of(block: &[u8], j: usize) -> usize
     requires { (head_size ≤ length block.now) × (j ≤ LISTS) }
     ensures { result ≡ start_of block.now j }
 {
-    let mut i: usize = 0;
-    let mut at: usize = HEAD;
-    while i < j {
-        at += area::get_u16(block, SIZES_AT + 2 * i) as usize;
-        i += 1;
+    let mut at = HEAD;
+    for i in 0..j {
+        at += usize::from(area::get_u16(block, SIZES_AT + 2 * i));
     }
     at
 }
 
-// Where the entry with that key stands, of n that start at `start`; 0 where there is none.
-fn place(block: &[u8], by_vkey: bool, n: u16, start: usize, key: u64) -> usize
+// Where the entry with that key stands, of n that start at `start`.
+fn place(block: &[u8], by_vkey: bool, n: u16, start: usize, key: u64) -> Option<usize>
     requires { (start ≤ length block.now) × (length block.now ≤ BLOCK_MOST) × (list_ok (list_key_ok by_vkey) n 0 (drop start block.now) ≡ true) }
     ensures { result ≡ place_of n key (drop start block.now) start }
 {
-    let mut left = n;
     let mut at = start;
-    while 0 < left {
+    for _ in 0..n {
         let l = &block[at..];
-        let k = area::get_u64(l, 0);
-        if k == key {
-            return at;
+        if area::get_u64(l, 0) == key {
+            return Some(at);
         }
-        at += ENTRY_HEAD + l[11] as usize;
-        left -= 1;
+        at += ENTRY_HEAD + usize::from(l[11]);
     }
-    0
+    None
 }
 
-// Where the entry with that key stands in list j, 0 where there is none.
-fn place_in(block: &[u8], j: usize, key: u64) -> usize
+// Where the entry with that key stands in list j.
+fn place_in(block: &[u8], j: usize, key: u64) -> Option<usize>
     requires { (block_ok block.now ≡ true) × (j < LISTS) }
     ensures { result ≡ place_in_list block.now j key }
 {
@@ -227,6 +232,7 @@ fn place_in(block: &[u8], j: usize, key: u64) -> usize
 }
 
 // The key of the entry at a place.
+#[tactic(auto, unfolding(crate::specs::Layout::found_at))]
 fn found_at(block: &[u8], at: usize) -> LayoutKey
     requires { (at + entry_head ≤ length block.now) × (length block.now ≤ BLOCK_MOST) }
     ensures { result ≡ found_at block.now at }
@@ -237,7 +243,7 @@ fn found_at(block: &[u8], at: usize) -> LayoutKey
     LayoutKey {
         key,
         start: at + ENTRY_HEAD,
-        len: block[at + 11] as usize,
+        len: usize::from(block[at + 11]),
     }
 }
 
@@ -247,16 +253,21 @@ fn num_lock_list(num_lock_on: bool) -> usize
     if num_lock_on { 0 } else { 1 }
 }
 
-// Where the entry of a key stands: in the Num Lock list, else in the list of the modifiers; 0 where neither has one.
-fn place_for(block: &[u8], mods: WindowsModifiers, num_lock_on: bool, vkey: u16, key: u64) -> usize
+// Where the entry of a key stands: in the Num Lock list, else in the list of the modifiers.
+fn place_for(
+    block: &[u8],
+    mods: WindowsModifiers,
+    num_lock_on: bool,
+    vkey: u16,
+    key: u64,
+) -> Option<usize>
     requires { block_ok block.now ≡ true }
     ensures { result ≡ place_for block.now (bits_of mods) num_lock_on vkey key }
 {
-    let p = place_in(block, num_lock_list(num_lock_on), vkey as u64);
-    if p != 0 {
-        return p;
-    }
-    place_in(block, LOCK_LISTS + mods.bits(), key)
+    let list = LOCK_LISTS + mods.bits();
+    place_in(block, num_lock_list(num_lock_on), u64::from(vkey)).or_else(|| place_in(
+        block, list, key,
+    ))
 }
 
 // SCOPE 5.1, tao's Layout::get_key. A virtual key above FF finds nothing in the first two lookups.
@@ -271,28 +282,13 @@ pub fn get_key(
     requires { block_ok block.now ≡ true }
     ensures { key_in block.now result ≡ get_key (maps_of block.now) (bits_of mods) num_lock_on vkey scancode code }
 {
-    let n = non_char_key(block, vkey);
-    if n != 0 {
-        return LayoutKey {
-            key: Key::Named(n),
-            start: 0,
-            len: 0,
-        };
+    if let Some(place) = non_char_key(block, vkey) {
+        return LayoutKey::bare(Key::Named(place));
     }
-    let p = place_for(
-        block,
-        mods,
-        num_lock_on,
-        vkey,
-        keys::key_code::code_key(code),
-    );
-    if p != 0 {
-        return found_at(block, p);
-    }
-    LayoutKey {
-        key: Key::Unidentified(NativeKeyCode::Windows(scancode)),
-        start: 0,
-        len: 0,
+    let key = keys::key_code::code_key(code);
+    match place_for(block, mods, num_lock_on, vkey, key) {
+        Some(at) => found_at(block, at),
+        None => LayoutKey::bare(Key::Unidentified(NativeKeyCode::Windows(scancode))),
     }
 }
 

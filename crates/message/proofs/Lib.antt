@@ -1,2 +1,3 @@
 mod Effects
+mod Asked
 mod CallAnswers

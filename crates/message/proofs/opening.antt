@@ -4,5 +4,3 @@ mod MessageOpened
 mod CharacterOpened
 mod AnsweredWhole
 mod RoomPassed
-mod ResultBySort
-mod EffectBySort

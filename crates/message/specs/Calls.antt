@@ -1,7 +1,8 @@
 -- What the calls leave, in the terms of what they are given and of their answers.
 -- Assumes nothing.
 use Rattle.std.specs.Prelude.{List, ℕ}
-use Rattle.session.specs.Given.{Message, Inputs}
+use Rattle.session.specs.Given.{Inputs}
+use Rattle.session.specs.declared.Message.{Message}
 use Rattle.session.specs.Answers.{Left, Said}
 use Rattle.session.specs.declared.ProcResult.{ProcResult}
 

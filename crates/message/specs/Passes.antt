@@ -1,7 +1,7 @@
 -- What an open has passed before it does anything.
 -- Assumes nothing.
 use Rattle.std.specs.Prelude.{◌≡◌, true}
-use Rattle.session.specs.Given.{Message}
+use Rattle.session.specs.declared.Message.{Message}
 use Rattle.session.specs.Session.{Session}
 use Rattle.session.specs.Builder.{Keyboard}
 use Rattle.session.specs.Calls.{Sort}

@@ -1,14 +1,13 @@
 -- The entry that a finish resolves, and what the finish does.
 -- Assumes nothing.
-use Rattle.std.specs.Prelude.{◌≡◌, true, List, ℕ, ◌+◌, ◌*◌, length, drop}
-use Rattle.std.proofs.Math.Option.{Option}
+use Rattle.std.specs.Prelude.{◌≡◌, true, List, ℕ, ◌+◌, ◌*◌, length, drop, Option}
 use Rattle.segmentation.specs.Table.{Table}
 use Rattle.lookup.specs.Block.{block_ok}
 use Rattle.session.specs.Limits.{AREA, ENTRIES_AT, ENTRY_SIZE}
 use Rattle.session.specs.Area.{entry}
 use Rattle.session.specs.Builder.{Keyboard}
 use Rattle.session.specs.Calls.{Effect, find_wait, finish_effect}
-use Rattle.session.specs.Given.{Message}
+use Rattle.session.specs.declared.Message.{Message}
 use Rattle.session.specs.Session.{Session}
 use Rattle.record.specs.Pending.{pending_of}
 use Rattle.record.specs.declared.read.Pending.{Pending}

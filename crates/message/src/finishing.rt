@@ -1,6 +1,5 @@
 // What a finish does, by what waits under its token and by what was peeked: tao's KeyEventBuilder::process_message behind the peek.
-ghost use Rattle.std.specs.Prelude.{true, List, ◌≡◌, ℕ, ◌+◌, ◌≤◌, ◌<◌, length, take, get_or};
-ghost use Rattle.std.proofs.Math.Option.{Option};
+ghost use Rattle.std.specs.Prelude.{true, List, ◌≡◌, ℕ, ◌+◌, ◌≤◌, ◌<◌, length, take, get_or, Option};
 ghost use Rattle.area.specs.Pick.{pick};
 ghost use Rattle.segmentation.specs.Layout.{table_of, table_ok};
 ghost use Rattle.segmentation.specs.Table.{Table};
@@ -17,15 +16,14 @@ ghost use Rattle.queue.specs.Changed.{Does};
 ghost use Rattle.queue.specs.Completing.{held_in, Completing};
 ghost use Rattle.queue.specs.Room.{IsArea};
 ghost use Rattle.queue.specs.Stands.{EventStands};
-ghost use Rattle.event.specs.Peeked.{as_peeked};
 ghost use Rattle.message.specs.Resolves.{EntryAt, finished_by};
 ghost use Rattle.message.specs.TextField.{text_field};
 
-use event::peeked::Peeked;
 use queue::held_event::TEXT_AT;
 use record::read::Pending;
 use session::{
-    ANSWER_EVENTS_AT, ENTRIES_AT, ENTRY_EVENT_AT, ENTRY_SIZE, HELD_AT, LastKey, PendingMessageToken,
+    ANSWER_EVENTS_AT, ENTRIES_AT, ENTRY_EVENT_AT, ENTRY_SIZE, HELD_AT, LastKey, Message,
+    PendingMessageToken,
 };
 
 // ---- a press
@@ -39,10 +37,10 @@ fn finish_press(
     block: &[u8],
     token: PendingMessageToken,
     place: usize,
-    peeked: Peeked,
+    peeked: Option<Message>,
 )
     requires { EntryAt Press session.old answers.old block.now token.0 place }
-    ensures { (r : Table) → Does (finished_by (decode session.old) (keyboard_at state.now block.now) r token.0 (as_peeked peeked)) session.new answers.new }
+    ensures { (r : Table) → Does (finished_by (decode session.old) (keyboard_at state.now block.now) r token.0 peeked) session.new answers.new }
 {
     let at = ENTRIES_AT + ENTRY_SIZE * place + 4;
     let p = record::read::pressed_at(&session[at..]);
@@ -76,10 +74,10 @@ fn finish_release(
     block: &[u8],
     token: PendingMessageToken,
     place: usize,
-    peeked: Peeked,
+    peeked: Option<Message>,
 )
     requires { EntryAt Release session.old answers.old block.now token.0 place }
-    ensures { (r : Table) → Does (finished_by (decode session.old) (keyboard_at state.now block.now) r token.0 (as_peeked peeked)) session.new answers.new }
+    ensures { (r : Table) → Does (finished_by (decode session.old) (keyboard_at state.now block.now) r token.0 peeked) session.new answers.new }
 {
     let at = ENTRIES_AT + ENTRY_SIZE * place + 9;
     let key = record::read::bare_key_at(&session[at..]);
@@ -138,10 +136,10 @@ fn finish_character(
     table: &[u8],
     token: PendingMessageToken,
     place: usize,
-    peeked: Peeked,
+    peeked: Option<Message>,
 )
     requires { EntryAt Character session.old answers.old block.now token.0 place × (table_ok table.now ≡ true) }
-    ensures { Does (finished_by (decode session.old) (keyboard_at state.now block.now) (table_of table.now) token.0 (as_peeked peeked)) session.new answers.new }
+    ensures { Does (finished_by (decode session.old) (keyboard_at state.now block.now) (table_of table.now) token.0 peeked) session.new answers.new }
 {
     let head = record::read::header_at(session);
     if event::peeked::completes(head.held, peeked) {
@@ -163,17 +161,15 @@ pub fn finish_open(
     block: &[u8],
     table: &[u8],
     token: PendingMessageToken,
-    peeked: Peeked,
+    peeked: Option<Message>,
 )
     requires { IsArea session.old × (length answers.old ≡ AREA) × (block_ok block.now ≡ true) × (table_ok table.now ≡ true) }
-    ensures { Does (finished_by (decode session.old) (keyboard_at state.now block.now) (table_of table.now) token.0 (as_peeked peeked)) session.new answers.new }
+    ensures { Does (finished_by (decode session.old) (keyboard_at state.now block.now) (table_of table.now) token.0 peeked) session.new answers.new }
 {
-    let h = record::read::header_at(session);
-    let place = queue::pending::find(session, token);
-    if h.count as usize <= place {
+    let Some(place) = queue::pending::find(session, token) else {
         queue::answers::no_events(answers);
         return;
-    }
+    };
     let at = ENTRIES_AT + ENTRY_SIZE * place;
     let what = record::read::pending_at(&session[at..]);
     match what {

@@ -6,31 +6,42 @@ mod finishing;
 mod opening;
 pub mod process_message;
 
-ghost use Rattle.std.specs.Prelude.{◌≡◌};
-ghost use Rattle.session.specs.Answers.{open_of, finish_of, open_said, finish_said};
+ghost use Rattle.std.specs.Prelude.{◌≡◌, IfOk};
+ghost use Rattle.session.specs.Answers.{questions, open_of, finish_of, open_said, finish_said};
+ghost use Rattle.session.specs.Calls.{sort_of};
+ghost use Rattle.session.specs.Given.{brought};
+ghost use Rattle.session.specs.Questions.{first_no};
 ghost use Rattle.session.specs.declared.ProcResult.{ProcResult};
-ghost use Rattle.message.specs.Calls.{inputs, message, left};
-ghost use Rattle.event.specs.Peeked.{as_peeked};
+ghost use Rattle.message.specs.Calls.{inputs, left};
+ghost use Rattle.questions.specs.Asked.{as_no};
+ghost use Rattle.questions.specs.Sorts.{as_sort};
 
-use event::peeked::Peeked;
-use questions::Asked;
-use session::{FinishAnswer, OpenAnswer, PendingMessageToken, ProcResult};
+use questions::sorts::MessageSort;
+use session::{Message, PendingMessageToken, ProcResult, Refusal};
 
-// What an open answers, and the message result after it.
+// What an open answers, the token of the message that it opened, if any, and the message result after it.
 #[derive(Clone, Copy)]
 pub struct Opened {
-    pub answer: OpenAnswer,
+    pub answer: Result<Option<PendingMessageToken>, Refusal>,
     pub result: ProcResult,
 }
 
-// An open's answer beside the message result.
-fn answered(answer: OpenAnswer, res: ProcResult) -> Opened
-    ensures { (result.answer ≡ answer) × (result.result ≡ res) }
+// The questions that are put to an open: the first that is failed, or what the message is to the calls.
+fn ask_open(
+    session: &[u8],
+    answers: &[u8],
+    state: &[u8],
+    block: &[u8],
+    table: &[u8],
+    message: Message,
+) -> Result<MessageSort, Refusal>
+    ensures refusal { as_no result ≡ first_no (questions session.now answers.now (brought (inputs state.now block.now table.now) message)) }
+    ensures sort { IfOk result (λ sort. as_sort sort ≡ sort_of message) }
 {
-    Opened {
-        answer,
-        result: res,
-    }
+    questions::ask_areas(session, answers, state, block, table)?; // 1 to 3, 11, 4
+    let sort = questions::sorts::sort_of(message);
+    questions::ask_message(session, state, block, sort, message)?; // 5 to 9
+    Ok(sort)
 }
 
 // SCOPE 1.1, 2.2: takes a message. `res` is the message result as it was.
@@ -40,26 +51,26 @@ pub fn open(
     state: &[u8],
     block: &[u8],
     table: &[u8],
-    kind: u32,
-    wparam: u64,
-    lparam: u64,
+    message: Message,
     res: ProcResult,
 ) -> Opened
-    ensures { left (open_said result.answer) result.result session.new answers.new ≡ open_of session.old answers.old res (inputs state.now block.now table.now) (message kind wparam lparam) }
+    ensures { left (open_said result.answer) result.result session.new answers.new ≡ open_of session.old answers.old res (inputs state.now block.now table.now) message }
 {
-    let early = questions::ask_areas(session, answers, state, block, table);
-    if let Asked::Failed(no) = early {
-        return answered(OpenAnswer::Refused(no), res); // 1 to 3, 11, 4
+    match ask_open(session, answers, state, block, table, message) {
+        Err(no) => Opened {
+            answer: Err(no),
+            result: res,
+        },
+        Ok(sort) => {
+            let h = record::read::header_at(session);
+            let after = crate::opening::result_after(sort, h.held, message, res);
+            let token = crate::opening::open_by(session, answers, state, block, sort, message);
+            Opened {
+                answer: Ok(token),
+                result: after,
+            }
+        }
     }
-    let sort = questions::sorts::sort_of(kind, wparam, lparam);
-    let late = questions::ask_message(session, state, block, sort, wparam);
-    if let Asked::Failed(no) = late {
-        return answered(OpenAnswer::Refused(no), res); // 5 to 9
-    }
-    let h = record::read::header_at(session);
-    let after = crate::opening::result_after(sort, h.held, kind, res);
-    let answer = crate::opening::open_by(session, answers, state, block, sort, wparam, lparam);
-    answered(answer, after)
 }
 
 // SCOPE 1.1, 2.2: finishes the latest open message with what was peeked.
@@ -70,19 +81,13 @@ pub fn finish(
     block: &[u8],
     table: &[u8],
     token: PendingMessageToken,
-    peeked: Peeked,
-) -> FinishAnswer
-    ensures { (was : ProcResult) → left (finish_said result) was session.new answers.new ≡ finish_of session.old answers.old was (inputs state.now block.now table.now) token.0 (as_peeked peeked) }
+    peeked: Option<Message>,
+) -> Result<(), Refusal>
+    ensures { (was : ProcResult) → left (finish_said result) was session.new answers.new ≡ finish_of session.old answers.old was (inputs state.now block.now table.now) token.0 peeked }
 {
-    let early = questions::ask_areas(session, answers, state, block, table);
-    if let Asked::Failed(no) = early {
-        return FinishAnswer::Refused(no);
-    }
-    let late = questions::ask_finish(session, token);
-    if let Asked::Failed(no) = late {
-        return FinishAnswer::Refused(no);
-    }
+    questions::ask_areas(session, answers, state, block, table)?;
+    questions::ask_finish(session, token)?;
     let seen = event::peeked::seen(peeked);
     crate::finishing::finish_open(session, answers, state, block, table, token, seen);
-    FinishAnswer::Finished
+    Ok(())
 }

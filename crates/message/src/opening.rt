@@ -1,8 +1,8 @@
 // What an open does once its questions are passed: tao's KeyEventBuilder::process_message up to the peek.
-ghost use Rattle.std.specs.Prelude.{true, [], ◌≡◌, ℕ, ◌<◌, length};
+ghost use Rattle.std.specs.Prelude.{true, [], ◌≡◌, ◌<◌, length, None};
 ghost use Rattle.lookup.specs.Block.{block_ok};
 ghost use Rattle.lookup.specs.LParam.{key_lparam, virtual_key};
-ghost use Rattle.session.specs.Answers.{open_said, no_token, result_by};
+ghost use Rattle.session.specs.Answers.{result_by};
 ghost use Rattle.session.specs.Area.{encode, decode, encode_answer};
 ghost use Rattle.session.specs.Builder.{from_message};
 ghost use Rattle.session.specs.Calls.{opening, char_opened, dead_char_answered, behind, message_effect};
@@ -17,7 +17,7 @@ ghost use Rattle.message.specs.Passes.{Passes};
 ghost use Rattle.questions.specs.Sorts.{as_sort};
 
 use questions::sorts::MessageSort;
-use session::{ElementState, OpenAnswer, ProcResult};
+use session::{ElementState, Message, PendingMessageToken, ProcResult, WM_SYSKEYDOWN};
 
 // ---- a focus change (complete_multi)
 
@@ -27,15 +27,12 @@ fn hand_out_focus(answers: &mut [u8], state: &[u8], block: &[u8], st: ElementSta
     ensures { answers.new ≡ encode_answer (focus_events (keyboard_at state.now block.now) st) }
 {
     let written = event::focus::focus_keys(state, block, st);
-    let keys = written.keys;
-    let n = written.len;
-    let mut i: usize = 0;
-    while i < n {
-        let e = event::focus::synthetic_event(state, block, st, keys[i]);
-        queue::answers::put_event_at(answers, i, block, e);
-        i += 1;
+    let keys = written.as_slice();
+    for i in 0..keys.len() {
+        let event = event::focus::synthetic_event(state, block, st, keys[i]);
+        queue::answers::put_event_at(answers, i, block, event);
     }
-    queue::answers::close(answers, n);
+    queue::answers::close(answers, keys.len());
 }
 
 // As completed entries behind the last one, each under a token of its own.
@@ -43,29 +40,30 @@ fn queue_focus(session: &mut [u8], state: &[u8], block: &[u8], st: ElementState)
     requires { IsArea session.old × (block_ok block.now ≡ true) × (0 < length (decode session.old).entries) × FitBehind (decode session.old) (focus_events (keyboard_at state.now block.now) st) }
     ensures { session.new ≡ encode (followed (decode session.old) (focus_events (keyboard_at state.now block.now) st)) }
 {
-    let noted = event::focus::focus_keys(state, block, st);
-    let keys = noted.keys;
-    let n = noted.len;
-    let mut i: usize = 0;
-    while i < n {
+    let written = event::focus::focus_keys(state, block, st);
+    let keys = written.as_slice();
+    for i in 0..keys.len() {
         let event = event::focus::synthetic_event(state, block, st, keys[i]);
         queue::pending::add_event(session, block, event);
-        i += 1;
     }
 }
 
 // ---- presses and releases, and what opens nothing
 
 // A press waits for its finish with its virtual key and what its lParam says.
-fn open_press(session: &mut [u8], answers: &mut [u8], wparam: u64, lparam: u64) -> OpenAnswer
+fn open_press(
+    session: &mut [u8],
+    answers: &mut [u8],
+    message: Message,
+) -> Option<PendingMessageToken>
     requires { HasRoom session.old × (length answers.old ≡ AREA) }
-    ensures { Gives (opening (decode session.old) (press (virtual_key wparam) (key_lparam lparam)) (decode session.old).held) result session.new answers.new }
+    ensures { Gives (opening (decode session.old) (press (virtual_key message.wparam) (key_lparam message.lparam)) (decode session.old).held) result session.new answers.new }
 {
-    let vkey = lookup::keyboard::virtual_key(wparam);
-    let l = lookup::keyboard::destructure_key_lparam(lparam);
+    let vkey = lookup::keyboard::virtual_key(message.wparam);
+    let l = lookup::keyboard::destructure_key_lparam(message.lparam);
     let token = queue::pending::add_press(session, vkey, l);
     queue::answers::no_events(answers);
-    OpenAnswer::Opened(token) // the press
+    Some(token) // the press
 }
 
 // SCOPE 3.4: a release is read from layout and key state at its open.
@@ -74,50 +72,53 @@ fn open_release(
     answers: &mut [u8],
     state: &[u8],
     block: &[u8],
-    wparam: u64,
-    lparam: u64,
-) -> OpenAnswer
+    message: Message,
+) -> Option<PendingMessageToken>
     requires { HasRoom session.old × (length answers.old ≡ AREA) × (block_ok block.now ≡ true) }
-    ensures { Gives (opening (decode session.old) (release (from_message (keyboard_at state.now block.now) (virtual_key wparam) (key_lparam lparam))) (decode session.old).held) result session.new answers.new }
+    ensures { Gives (opening (decode session.old) (release (from_message (keyboard_at state.now block.now) (virtual_key message.wparam) (key_lparam message.lparam))) (decode session.old).held) result session.new answers.new }
 {
-    let vkey = lookup::keyboard::virtual_key(wparam);
-    let l = lookup::keyboard::destructure_key_lparam(lparam);
+    let vkey = lookup::keyboard::virtual_key(message.wparam);
+    let l = lookup::keyboard::destructure_key_lparam(message.lparam);
     let info = event::partial::from_message(state, block, vkey, l);
     let token = queue::pending::add_release(session, block, info);
     queue::answers::no_events(answers);
-    OpenAnswer::Opened(token) // the release
+    Some(token) // the release
 }
 
 // A message that is ignored, or answered without an event.
-fn open_none(answers: &mut [u8]) -> OpenAnswer
+fn open_none(answers: &mut [u8]) -> Option<PendingMessageToken>
     requires { length answers.old ≡ AREA }
-    ensures { (open_said result ≡ no_token) × (answers.new ≡ encode_answer []) }
+    ensures { (result ≡ None) × (answers.new ≡ encode_answer []) }
 {
     queue::answers::no_events(answers);
-    OpenAnswer::OpenedNone // nothing waits
+    None // nothing waits
 }
 
 // ---- a character
 
 // SCOPE 3.9: a character adds its units to the held press, and waits; without one it is ignored.
-fn open_char(session: &mut [u8], answers: &mut [u8], wparam: u64) -> OpenAnswer
-    requires { MayChar session.old wparam × (length answers.old ≡ AREA) }
-    ensures { (kind lparam : ℕ) → Gives (char_opened (decode session.old) (record { kind = kind; wparam = wparam; lparam = lparam }) (decode session.old).held) result session.new answers.new }
+fn open_char(
+    session: &mut [u8],
+    answers: &mut [u8],
+    message: Message,
+) -> Option<PendingMessageToken>
+    requires { MayChar session.old message.wparam × (length answers.old ≡ AREA) }
+    ensures { Gives (char_opened (decode session.old) message (decode session.old).held) result session.new answers.new }
 {
     let h = record::read::header_at(session);
     if !h.held {
         return open_none(answers);
     }
-    queue::held_press::add_units(session, wparam);
+    queue::held_press::add_units(session, message.wparam);
     let token = queue::pending::add_character(session);
     queue::answers::no_events(answers);
-    OpenAnswer::Opened(token) // the character
+    Some(token) // the character
 }
 
 // ---- messages that are answered whole
 
 // SCOPE 4.4: a dead character completes the held press, behind the queue's last entry or straight out of an empty one.
-fn answer_dead_char(session: &mut [u8], answers: &mut [u8]) -> OpenAnswer
+fn answer_dead_char(session: &mut [u8], answers: &mut [u8]) -> Option<PendingMessageToken>
     requires { HasRoom session.old × (is_held (decode session.old).held ≡ true) × (length answers.old ≡ AREA) }
     ensures { Gives (dead_char_answered (decode session.old) (decode session.old).held) result session.new answers.new }
 {
@@ -126,11 +127,11 @@ fn answer_dead_char(session: &mut [u8], answers: &mut [u8]) -> OpenAnswer
     queue::held_press::forget_held(session);
     if h.count == 0 { // before the dead character
         queue::answers::one_event(answers);
-        return OpenAnswer::OpenedNone;
+        return None;
     }
     queue::pending::add_complete(session, h);
     queue::answers::no_events(answers);
-    OpenAnswer::OpenedNone
+    None
 }
 
 // SCOPE 4.4: a focus change hands out its events straight from an empty queue, else they go behind its last entry.
@@ -140,18 +141,18 @@ fn answer_focus(
     state: &[u8],
     block: &[u8],
     st: ElementState,
-) -> OpenAnswer
+) -> Option<PendingMessageToken>
     requires { IsArea session.old × (block_ok block.now ≡ true) × (length answers.old ≡ AREA) × FitBehind (decode session.old) (focus_events (keyboard_at state.now block.now) st) }
     ensures { Gives (behind (decode session.old) (focus_events (keyboard_at state.now block.now) st) (decode session.old).held (decode session.old).entries) result session.new answers.new }
 {
     let h = record::read::header_at(session);
     if h.count == 0 { // before the focus change
         hand_out_focus(answers, state, block, st);
-        return OpenAnswer::OpenedNone;
+        return None;
     }
     queue_focus(session, state, block, st);
     queue::answers::no_events(answers);
-    OpenAnswer::OpenedNone
+    None
 }
 
 // ---- which of them a message is; the message result
@@ -163,16 +164,15 @@ pub fn open_by(
     state: &[u8],
     block: &[u8],
     sort: MessageSort,
-    wparam: u64,
-    lparam: u64,
-) -> OpenAnswer
-    requires { IsArea session.old × (length answers.old ≡ AREA) × (block_ok block.now ≡ true) × Passes (decode session.old) (keyboard_at state.now block.now) (record { kind = 0; wparam = wparam; lparam = lparam }) (as_sort sort) }
-    ensures { (kind : ℕ) → Gives (message_effect (decode session.old) (keyboard_at state.now block.now) (record { kind = kind; wparam = wparam; lparam = lparam }) (as_sort sort)) result session.new answers.new }
+    message: Message,
+) -> Option<PendingMessageToken>
+    requires { IsArea session.old × (length answers.old ≡ AREA) × (block_ok block.now ≡ true) × Passes (decode session.old) (keyboard_at state.now block.now) message (as_sort sort) }
+    ensures { Gives (message_effect (decode session.old) (keyboard_at state.now block.now) message (as_sort sort)) result session.new answers.new }
 {
     match sort {
-        MessageSort::KeyDown => open_press(session, answers, wparam, lparam),
-        MessageSort::KeyUp => open_release(session, answers, state, block, wparam, lparam),
-        MessageSort::Char => open_char(session, answers, wparam),
+        MessageSort::KeyDown => open_press(session, answers, message),
+        MessageSort::KeyUp => open_release(session, answers, state, block, message),
+        MessageSort::Char => open_char(session, answers, message),
         MessageSort::DeadChar => answer_dead_char(session, answers),
         MessageSort::Focus(st) => answer_focus(session, answers, state, block, st),
         MessageSort::Ignored => open_none(answers),
@@ -181,25 +181,14 @@ pub fn open_by(
 
 // SCOPE 3.3, what the message result becomes: the default procedure's for a system key press, value 0 for what else opens and for a dead
 // character; focus, what is ignored and a character with no press held leave it as it is.
-pub fn result_after(sort: MessageSort, held: bool, kind: u32, res: ProcResult) -> ProcResult
-    ensures { (s : Session) (wparam lparam : ℕ) → is_held s.held ≡ held → result ≡ result_by (as_sort sort) s (record { kind = kind; wparam = wparam; lparam = lparam }) res }
+#[tactic(auto, unfolding(questions::specs::Sorts::as_sort, session::specs::Answers::result_by))]
+pub fn result_after(sort: MessageSort, held: bool, message: Message, res: ProcResult) -> ProcResult
+    ensures { (s : Session) → is_held s.held ≡ held → result ≡ result_by (as_sort sort) s message res }
 {
     match sort {
-        MessageSort::KeyDown => {
-            if kind == 0x104 {
-                return ProcResult::DefWindowProc;
-            }
-            ProcResult::Value(0)
-        }
-        MessageSort::KeyUp => ProcResult::Value(0),
-        MessageSort::Char => {
-            if held {
-                return ProcResult::Value(0);
-            }
-            res
-        }
-        MessageSort::DeadChar => ProcResult::Value(0),
-        MessageSort::Focus(_) => res,
-        MessageSort::Ignored => res,
+        MessageSort::KeyDown if message.kind == WM_SYSKEYDOWN => ProcResult::DefWindowProc,
+        MessageSort::KeyDown | MessageSort::KeyUp | MessageSort::DeadChar => ProcResult::Value(0),
+        MessageSort::Char if held => ProcResult::Value(0),
+        MessageSort::Char | MessageSort::Focus(_) | MessageSort::Ignored => res,
     }
 }

@@ -2,10 +2,10 @@
 // makes the message result and lends it.
 ghost use Rattle.std.specs.Prelude.{◌≡◌};
 ghost use Rattle.session.specs.Answers.{open_of, open_said};
-ghost use Rattle.message.specs.Calls.{inputs, message, left};
+ghost use Rattle.message.specs.Calls.{inputs, left};
 
 use crate::Opened;
-use session::{OpenAnswer, ProcResult};
+use session::{Message, PendingMessageToken, ProcResult, Refusal};
 
 // SCOPE 10.8: the message result, lent and set by an open.
 #[derive(Clone, Copy)]
@@ -20,19 +20,15 @@ pub fn process_message(
     state: &[u8],
     block: &[u8],
     table: &[u8],
-    kind: u32,
-    wparam: u64,
-    lparam: u64,
+    message: Message,
     res: &mut MessageResult,
-) -> OpenAnswer
-    ensures { left (open_said result) res.new.value session.new answers.new ≡ open_of session.old answers.old res.old.value (inputs state.now block.now table.now) (message kind wparam lparam) }
+) -> Result<Option<PendingMessageToken>, Refusal>
+    ensures { left (open_said result) res.new.value session.new answers.new ≡ open_of session.old answers.old res.old.value (inputs state.now block.now table.now) message }
 {
     let old = res.value;
-    let a = crate::open(
-        session, answers, state, block, table, kind, wparam, lparam, old,
-    );
-    res.value = a.result;
-    a.answer
+    let opened = crate::open(session, answers, state, block, table, message, old);
+    res.value = opened.result;
+    opened.answer
 }
 
 // SCOPE 3.3, 10.8: takes a message by process_message, which it lends a message result: `res` is its value before, and the answer has its value
@@ -43,17 +39,13 @@ pub fn lend_result(
     state: &[u8],
     block: &[u8],
     table: &[u8],
-    kind: u32,
-    wparam: u64,
-    lparam: u64,
+    message: Message,
     res: ProcResult,
 ) -> Opened
-    ensures { left (open_said result.answer) result.result session.new answers.new ≡ open_of session.old answers.old res (inputs state.now block.now table.now) (message kind wparam lparam) }
+    ensures { left (open_said result.answer) result.result session.new answers.new ≡ open_of session.old answers.old res (inputs state.now block.now table.now) message }
 {
     let mut lent = MessageResult { value: res };
-    let answer = process_message(
-        session, answers, state, block, table, kind, wparam, lparam, &mut lent,
-    );
+    let answer = process_message(session, answers, state, block, table, message, &mut lent);
     let after = lent.value;
     Opened {
         answer,

@@ -1,3 +1,1 @@
-mod QuestionLadder
 mod AsksBySort
-pub mod Outcome

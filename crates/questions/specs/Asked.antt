@@ -1,20 +1,18 @@
 -- What the answer to the questions stands for, and the questions that are put to every call.
 -- Assumes nothing.
-use Rattle.std.specs.Prelude.{ℕ, Bool, List, [], ◌∷◌, eqb, length}
-use Rattle.std.proofs.Math.Option.{Option, some, none}
+use Rattle.std.specs.Prelude.{ℕ, Bool, List, [], ◌∷◌, eqb, length, Option, Some, None, Result, Ok, Err}
 use Rattle.segmentation.specs.Layout.{table_ok}
 use Rattle.lookup.specs.Block.{block_ok}
 use Rattle.session.specs.Limits.{KEYS}
 use Rattle.session.specs.Questions.{question1}
 use Rattle.session.specs.Area.{session_ok}
 use Rattle.session.specs.Answers.{refusal_number}
-use Rattle.questions.specs.declared.Asked.{Asked}
-use Rattle.questions.specs.declared.Asked.TheVariants as a
+use Rattle.session.specs.declared.Refusal.{Refusal}
 
 -- the number of the first question that was failed, if any
-unfoldable pub as_no : Asked → Option ℕ
-as_no a.Passed = none
-as_no (a.Failed r) = some (refusal_number r)
+unfoldable pub as_no : {A : Type 0} → Result A Refusal → Option ℕ
+as_no (Ok x) = None
+as_no (Err r) = Some (refusal_number r)
 
 -- SCOPE 6.0: 1 to 3, 11 and 4 are put to every call
 unfoldable pub to_every : List ℕ → List ℕ → List ℕ → List ℕ → List ℕ → List (ℕ × Bool)

@@ -191,18 +191,13 @@ fn rising_ok(s: &[u8], n: usize, handed: u16) -> bool
     requires { (n ≤ entries_most) × (n * entry_size ≤ length s.now) }
     ensures { result ≡ rising 0 handed (get_many entry n s.now) }
 {
-    let mut i: usize = 0;
     let mut lo: u32 = 0;
-    while i < n {
+    for i in 0..n {
         let token = area::get_u16(s, ENTRY_SIZE * i);
-        if (token as u32) < lo {
-            return false;
-        }
-        if handed <= token {
+        if (token as u32) < lo || handed <= token {
             return false;
         }
         lo = token as u32 + 1;
-        i += 1;
     }
     true
 }
@@ -255,12 +250,10 @@ fn entries_ok(s: &[u8], n: usize) -> bool
     requires { (n ≤ entries_most) × (n * entry_size ≤ length s.now) }
     ensures { result ≡ ok_many entry n s.now }
 {
-    let mut i: usize = 0;
-    while i < n {
+    for i in 0..n {
         if !entry_ok(&s[ENTRY_SIZE * i..]) {
             return false;
         }
-        i += 1;
     }
     true
 }

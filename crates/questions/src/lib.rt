@@ -18,136 +18,116 @@ ghost use Rattle.questions.specs.Sorts.{as_sort};
 
 use crate::sorts::MessageSort;
 use session::{
-    AREA_SIZE, ENTRIES_MOST, KEY_STATE_SIZE, OPEN_MOST, PendingMessageToken, Refusal, TOKENS_MOST,
-    UNITS_MOST,
+    AREA_SIZE, ENTRIES_MOST, KEY_STATE_SIZE, Message, OPEN_MOST, PendingMessageToken, Refusal,
+    TOKENS_MOST, UNITS_MOST,
 };
 
 // ---- put to every call
 
-// Whether the questions are passed, or the first that is failed.
-#[derive(Clone, Copy)]
-pub enum Asked {
-    Passed,
-    Failed(Refusal),
-}
-
-// 1 to 3, 11 and 4, put to every call.
-pub fn ask_areas(session: &[u8], answers: &[u8], state: &[u8], block: &[u8], table: &[u8]) -> Asked
+// 1 to 3, 11 and 4, put to every call: the first that is failed.
+#[tactic(auto, unfolding(crate::specs::Asked::as_no, crate::specs::Asked::to_every, session::specs::Answers::refusal_number, session::specs::Questions::question1, session::specs::Questions::first_no))]
+pub fn ask_areas(
+    session: &[u8],
+    answers: &[u8],
+    state: &[u8],
+    block: &[u8],
+    table: &[u8],
+) -> Result<(), Refusal>
     ensures { as_no result ≡ first_no (to_every session.now answers.now state.now block.now table.now) }
 {
     if session.len() != AREA_SIZE {
-        return Asked::Failed(Refusal::AreaSize);
+        return Err(Refusal::AreaSize);
     }
     if answers.len() != AREA_SIZE {
-        return Asked::Failed(Refusal::AreaSize); // of either area
+        return Err(Refusal::AreaSize); // of either area
     }
     if state.len() != KEY_STATE_SIZE {
-        return Asked::Failed(Refusal::KeyStateSize);
+        return Err(Refusal::KeyStateSize);
     }
     if !lookup::block::block_ok(block) {
-        return Asked::Failed(Refusal::Block);
+        return Err(Refusal::Block);
     }
     if !segmentation::break_table::table_ok(table) {
-        return Asked::Failed(Refusal::Table);
+        return Err(Refusal::Table);
     }
     if !crate::check::session_ok(session) {
-        return Asked::Failed(Refusal::Session);
+        return Err(Refusal::Session);
     }
-    Asked::Passed // those put to every call
+    Ok(()) // those put to every call
 }
 
 // ---- what a message asks for, of a session's area
 
 // Whether it opens: a character only where a press is held.
+#[tactic(auto, unfolding(crate::specs::Sorts::as_sort, session::specs::Questions::opens))]
 fn opens(session: &[u8], sort: MessageSort) -> bool
     requires { IsArea session.now }
     ensures { result ≡ opens (decode session.now) (as_sort sort) }
 {
     let h = record::read::header_at(session);
     match sort {
-        MessageSort::KeyDown => true,
-        MessageSort::KeyUp => true,
+        MessageSort::KeyDown | MessageSort::KeyUp => true,
         MessageSort::Char => h.held,
-        MessageSort::DeadChar => false,
-        MessageSort::Focus(_) => false,
-        MessageSort::Ignored => false,
+        MessageSort::DeadChar | MessageSort::Focus(_) | MessageSort::Ignored => false,
     }
 }
 
 // SCOPE 6.0: how many entries it needs, and so many tokens. Focus on an empty queue needs none.
+#[tactic(auto, unfolding(crate::specs::Sorts::as_sort, session::specs::Questions::new_entries))]
 fn new_entries(session: &[u8], state: &[u8], block: &[u8], sort: MessageSort) -> usize
     requires { IsArea session.now × (block_ok block.now ≡ true) }
     ensures { (result ≡ new_entries (decode session.now) (keyboard_at state.now block.now) (as_sort sort)) × (result ≤ entries_most) }
 {
     let h = record::read::header_at(session);
     match sort {
-        MessageSort::KeyDown => 1,
-        MessageSort::KeyUp => 1,
-        MessageSort::Char => {
-            if h.held {
-                return 1;
-            }
-            0
-        }
-        MessageSort::DeadChar => 1,
-        MessageSort::Focus(st) => {
-            if h.count == 0 {
-                return 0;
-            }
-            event::focus::focus_count(state, block, st)
-        }
+        MessageSort::KeyDown | MessageSort::KeyUp | MessageSort::DeadChar => 1,
+        MessageSort::Char => usize::from(h.held),
+        MessageSort::Focus(_) if h.count == 0 => 0,
+        MessageSort::Focus(st) => event::focus::focus_count(state, block, st),
         MessageSort::Ignored => 0,
     }
 }
 
 // How many units a character message leaves held.
-fn char_units_after(session: &[u8], wparam: u64) -> usize
+fn char_units_after(session: &[u8], message: Message) -> usize
     requires { IsArea session.now }
-    ensures { (kind lparam : ℕ) → result ≡ units_after (decode session.now).held (record { kind = kind; wparam = wparam; lparam = lparam }) char }
+    ensures { result ≡ units_after (decode session.now).held message char }
 {
     let h = record::read::header_at(session);
     if !h.held {
         return 0;
     }
     let held = record::read::unit_count(session);
-    let added = text::char_units(wparam);
-    held + added.len
+    let added = text::char_units(message.wparam);
+    held + added.len()
 }
 
 // How many units are held with it.
-fn units_after(session: &[u8], sort: MessageSort, wparam: u64) -> usize
+#[tactic(auto, unfolding(crate::specs::Sorts::as_sort, session::specs::Questions::units_after))]
+fn units_after(session: &[u8], sort: MessageSort, message: Message) -> usize
     requires { IsArea session.now }
-    ensures { (kind lparam : ℕ) → result ≡ units_after (decode session.now).held (record { kind = kind; wparam = wparam; lparam = lparam }) (as_sort sort) }
+    ensures { result ≡ units_after (decode session.now).held message (as_sort sort) }
 {
-    match sort {
-        MessageSort::KeyDown => 0,
-        MessageSort::KeyUp => 0,
-        MessageSort::Char => char_units_after(session, wparam),
-        MessageSort::DeadChar => 0,
-        MessageSort::Focus(_) => 0,
-        MessageSort::Ignored => 0,
+    if let MessageSort::Char = sort {
+        return char_units_after(session, message);
     }
+    0
 }
 
 // ---- the questions that are put to a session
 
 // Question 5: for a dead character, whether a press is held.
+#[tactic(auto, unfolding(crate::specs::Sorts::as_sort, session::specs::Questions::question5))]
 fn has_press(session: &[u8], sort: MessageSort) -> bool
     requires { IsArea session.now }
     ensures { result ≡ question5 (decode session.now) (as_sort sort) }
 {
     let h = record::read::header_at(session);
-    match sort {
-        MessageSort::KeyDown => true,
-        MessageSort::KeyUp => true,
-        MessageSort::Char => true,
-        MessageSort::DeadChar => h.held,
-        MessageSort::Focus(_) => true,
-        MessageSort::Ignored => true,
-    }
+    h.held || !matches!(sort, MessageSort::DeadChar)
 }
 
 // Question 6: to open, whether fewer than OPEN_MOST are open.
+#[tactic(auto, unfolding(session::specs::Questions::question6))]
 fn may_open(session: &[u8], sort: MessageSort) -> bool
     requires { IsArea session.now }
     ensures { result ≡ question6 (decode session.now) (as_sort sort) }
@@ -159,43 +139,45 @@ fn may_open(session: &[u8], sort: MessageSort) -> bool
 }
 
 // 5 to 9, put to calls that bring a message.
+#[tactic(auto, unfolding(crate::specs::Asked::as_no, session::specs::Answers::refusal_number, session::specs::Questions::message_questions, session::specs::Questions::question7, session::specs::Questions::question8, session::specs::Questions::question9, session::specs::Questions::first_no))]
 pub fn ask_message(
     session: &[u8],
     state: &[u8],
     block: &[u8],
     sort: MessageSort,
-    wparam: u64,
-) -> Asked
+    message: Message,
+) -> Result<(), Refusal>
     requires { IsArea session.now × (block_ok block.now ≡ true) }
-    ensures { (kind lparam : ℕ) → as_no result ≡ first_no (message_questions (decode session.now) (keyboard_at state.now block.now) (record { kind = kind; wparam = wparam; lparam = lparam }) (as_sort sort)) }
+    ensures { as_no result ≡ first_no (message_questions (decode session.now) (keyboard_at state.now block.now) message (as_sort sort)) }
 {
     if !has_press(session, sort) {
-        return Asked::Failed(Refusal::NothingHeld);
+        return Err(Refusal::NothingHeld);
     }
     if !may_open(session, sort) {
-        return Asked::Failed(Refusal::TooManyOpen);
+        return Err(Refusal::TooManyOpen);
     }
     let h = record::read::header_at(session);
     let new = new_entries(session, state, block, sort);
     if ENTRIES_MOST < h.count as usize + new {
-        return Asked::Failed(Refusal::QueueFull);
+        return Err(Refusal::QueueFull);
     }
     if TOKENS_MOST < h.handed as usize + new {
-        return Asked::Failed(Refusal::TokensUsed);
+        return Err(Refusal::TokensUsed);
     }
-    if UNITS_MOST < units_after(session, sort, wparam) {
-        return Asked::Failed(Refusal::TooManyUnits);
+    if UNITS_MOST < units_after(session, sort, message) {
+        return Err(Refusal::TooManyUnits);
     }
-    Asked::Passed // 5 to 9
+    Ok(()) // 5 to 9
 }
 
 // Question 10, put to finishes: whether the token is that of the latest open message.
-pub fn ask_finish(session: &[u8], token: PendingMessageToken) -> Asked
+#[tactic(auto, unfolding(crate::specs::Asked::as_no, session::specs::Answers::refusal_number, session::specs::Questions::finish_questions, session::specs::Questions::question10, session::specs::Questions::first_no))]
+pub fn ask_finish(session: &[u8], token: PendingMessageToken) -> Result<(), Refusal>
     requires { IsArea session.now }
     ensures { as_no result ≡ first_no (finish_questions (decode session.now) token.0) }
 {
     if queue::pending::is_latest(session, token) {
-        return Asked::Passed;
+        return Ok(());
     }
-    Asked::Failed(Refusal::NotLatest)
+    Err(Refusal::NotLatest)
 }

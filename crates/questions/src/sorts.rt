@@ -3,7 +3,10 @@ ghost use Rattle.std.specs.Prelude.{◌≡◌};
 ghost use Rattle.session.specs.Calls.{sort_of};
 ghost use Rattle.questions.specs.Sorts.{as_sort};
 
-use session::ElementState;
+use session::{
+    ElementState, Message, WM_CHAR, WM_DEADCHAR, WM_KEYDOWN, WM_KEYUP, WM_KILLFOCUS, WM_SETFOCUS,
+    WM_SYSCHAR, WM_SYSDEADCHAR, WM_SYSKEYDOWN, WM_SYSKEYUP,
+};
 
 // What a message is to the calls.
 #[derive(Clone, Copy)]
@@ -16,53 +19,21 @@ pub enum MessageSort {
     Ignored,
 }
 
-const WM_SETFOCUS: u32 = 0x007;
-
-const WM_KILLFOCUS: u32 = 0x008;
-
-const WM_KEYDOWN: u32 = 0x100;
-
-const WM_KEYUP: u32 = 0x101;
-
-const WM_CHAR: u32 = 0x102;
-
-const WM_DEADCHAR: u32 = 0x103;
-
-const WM_SYSKEYDOWN: u32 = 0x104;
-
-const WM_SYSKEYUP: u32 = 0x105;
-
-const WM_SYSCHAR: u32 = 0x106;
-
-const WM_SYSDEADCHAR: u32 = 0x107;
-
 const VK_F4: u64 = 0x73;
 
-// SCOPE 3.2: Alt and F4 close the window, which is not a press.
-fn sys_key_down(wparam: u64) -> MessageSort
-    ensures { as_sort result ≡ sort_of (record { kind = 0x104; wparam = wparam; lparam = 0 }) }
+// Of a system key press wParam decides too; of any other kind the kind alone.
+#[tactic(auto, unfolding(crate::specs::Sorts::as_sort, session::specs::Calls::sort_of, area::specs::Look::assoc))]
+pub fn sort_of(message: Message) -> MessageSort
+    ensures { as_sort result ≡ sort_of message }
 {
-    if wparam == VK_F4 {
-        return MessageSort::Ignored;
-    }
-    MessageSort::KeyDown
-}
-
-// Of a system key press wParam decides; of any other kind the kind alone.
-pub fn sort_of(kind: u32, wparam: u64, lparam: u64) -> MessageSort
-    ensures { as_sort result ≡ sort_of (record { kind = kind; wparam = wparam; lparam = lparam }) }
-{
-    match kind {
+    match message.kind {
         WM_SETFOCUS => MessageSort::Focus(ElementState::Pressed),
         WM_KILLFOCUS => MessageSort::Focus(ElementState::Released),
-        WM_KEYDOWN => MessageSort::KeyDown,
-        WM_KEYUP => MessageSort::KeyUp,
-        WM_CHAR => MessageSort::Char,
-        WM_DEADCHAR => MessageSort::DeadChar,
-        WM_SYSKEYDOWN => sys_key_down(wparam),
-        WM_SYSKEYUP => MessageSort::KeyUp,
-        WM_SYSCHAR => MessageSort::Char,
-        WM_SYSDEADCHAR => MessageSort::DeadChar,
+        WM_SYSKEYDOWN if message.wparam == VK_F4 => MessageSort::Ignored, // SCOPE 3.2: Alt and F4 close the window
+        WM_KEYDOWN | WM_SYSKEYDOWN => MessageSort::KeyDown,
+        WM_KEYUP | WM_SYSKEYUP => MessageSort::KeyUp,
+        WM_CHAR | WM_SYSCHAR => MessageSort::Char,
+        WM_DEADCHAR | WM_SYSDEADCHAR => MessageSort::DeadChar,
         _ => MessageSort::Ignored,
     }
 }

@@ -1,9 +1,9 @@
 -- The held press of a session's area, read and set.
 -- Assumes nothing.
+use Rattle.std.specs.Prelude.{Option, Some, None}
 use mathlib.Core.Path.{◌≡◌, refl, sym, ap, ◌∙◌}
 use mathlib.Core.Bool.{Bool, true, false, not}
 use mathlib.Core.List.{List, [], ◌∷◌}
-use mathlib.Core.Option.{Option, some, none}
 use Prim.Native.Nat.{ℕ, zero, suc, ◌+◌, ◌≤◌, ◌<◌}
 use native.Mathlib.Omega.{arith}
 use lib.ListN.{get_or, set, length, drop, replicate, length-append}
@@ -32,36 +32,36 @@ use Rattle.queue.proofs.Sessions.{held_parts}
 
 -- ---- read
 
-within : (h : Held) → units_within (some h) ≡ true → length h.units ≤ UNITS_MOST
+within : (h : Held) → units_within (Some h) ≡ true → length h.units ≤ UNITS_MOST
 unfolding units_within
 within h e = leb-true (length h.units) UNITS_MOST e
 
 module _ (x : List ℕ) (r : IsArea x) (e : is_held (decode x).held ≡ true) where
-  pub held_there : (decode x).held ≡ some (held_in x)
+  pub held_there : (decode x).held ≡ Some (held_in x)
   held_there = held_at x e
 
   pub held_passes : held.ok (drop HELD_AT x) ≡ true
   held_passes = held-ok x e r.passed
 
   -- it is in range
-  pub held_fits_lem : ((i : ℕ) → get_or x i 0 < 256) → (length (held_in x).units ≤ UNITS_MOST) × (held_fits (some (held_in x)) ≡ true)
+  pub held_fits_lem : ((i : ℕ) → get_or x i 0 < 256) → (length (held_in x).units ≤ UNITS_MOST) × (held_fits (Some (held_in x)) ≡ true)
   held_fits_lem b =
       let o = held_parts (decode x) (own_area x b r).good in
       (within (held_in x) (rw held_there at o.0), rw held_there at o.1)
 
 -- ---- whether a press is held, as the header's mark tells
 
-pub none-held : (o : Option Held) (b : Bool) → b ≡ is_held o → not b ≡ true → o ≡ none
-none-held none b e n = refl
-none-held (some h) b e n = let m : false ≡ true = rw e at n in cc
+pub none-held : (o : Option Held) (b : Bool) → b ≡ is_held o → not b ≡ true → o ≡ None
+none-held None b e n = refl
+none-held (Some h) b e n = let m : false ≡ true = rw e at n in cc
 
 pub one-held : (o : Option Held) (b : Bool) → b ≡ is_held o → not b ≡ false → is_held o ≡ true
-one-held none b e n = sym (rw e at n)
-one-held (some h) b e n = refl
+one-held None b e n = sym (rw e at n)
+one-held (Some h) b e n = refl
 
 -- ---- set
 
-pub set_fits : (h : Held) → h.units ≡ [] → held_fits (some h) ≡ true → OptHeldFits (some h)
+pub set_fits : (h : Held) → h.units ≡ [] → held_fits (Some h) ≡ true → OptHeldFits (Some h)
 set_fits h u f = (f, rw u (omega arith))
 
 -- another press written, or none
@@ -88,37 +88,37 @@ module _ (x : List ℕ) (b : (i : ℕ) → get_or x i 0 < 256) (r : IsArea x) (e
 
   pub units_added :
       length (held_in x).units + length (char_units w) ≤ UNITS_MOST → {k : ℕ} {y : List ℕ} → y ≡ splice k (held.put more) x → k ≡ HELD_AT →
-      y ≡ encode (holding (decode x) (some more))
+      y ≡ encode (holding (decode x) (Some more))
   units_added l p u =
-      held-set x b r (some more) (units-fit (held_in x) w (held_fits_lem x r e b).1, omega (arith, more-length))
+      held-set x b r (Some more) (units-fit (held_in x) w (held_fits_lem x r e b).1, omega (arith, more-length))
       (p ∙ rw u (sym (marked (held.put more)) ∙ ap (λ (t : List ℕ). splice HELD_FIELD_AT t x) (sym (some_put more)))) refl
 
 -- ---- forgotten: nothing is out of range
 
-none_width : length (held_field.put none) ≡ HELD_FIELD_SIZE
-none_width = opt_held-sound.sized none tt ∙ held-field-width
+none_width : length (held_field.put None) ≡ HELD_FIELD_SIZE
+none_width = opt_held-sound.sized None tt ∙ held-field-width
 
 -- something that no entry counts may stand behind
 pub held_forgotten :
     (x : List ℕ) → ((i : ℕ) → get_or x i 0 < 256) → IsArea x → (at : ℕ) (b : List ℕ) → ENTRIES_AT ≤ at → {k : ℕ} {y z : List ℕ} →
-    y ≡ splice at b x → z ≡ splice k (held_field.put none) y → k ≡ HELD_FIELD_AT → z ≡ splice at b (encode (holding (decode x) none))
+    y ≡ splice at b x → z ≡ splice k (held_field.put None) y → k ≡ HELD_FIELD_AT → z ≡ splice at b (encode (holding (decode x) None))
 held_forgotten x w r at b h {k} p q u =
     q
-    ∙ rw (u, p) (apart HELD_FIELD_AT at (held_field.put none) b x (omega (arith, none_width)))
-    ∙ ap (λ (l : List ℕ). splice at b l) (held-set x w r none tt refl refl)
+    ∙ rw (u, p) (apart HELD_FIELD_AT at (held_field.put None) b x (omega (arith, none_width)))
+    ∙ ap (λ (l : List ℕ). splice at b l) (held-set x w r None tt refl refl)
 
-nothing-within : (units_within none ≡ true) × (held_fits none ≡ true)
+nothing-within : (units_within None ≡ true) × (held_fits None ≡ true)
 unfolding units_within held_fits
 nothing-within = (refl, refl)
 
-pub forgotten : (s : Session) {x y : List ℕ} → AreaOf s x → y ≡ encode (holding (decode x) none) → AreaOf (holding s none) y
-forgotten s a e = held-area s none a nothing-within.0 nothing-within.1 e
+pub forgotten : (s : Session) {x y : List ℕ} → AreaOf s x → y ≡ encode (holding (decode x) None) → AreaOf (holding s None) y
+forgotten s a e = held-area s None a nothing-within.0 nothing-within.1 e
 
 -- what `forget_held` says, of an area with nothing behind its entries
 pub forgot_plainly :
     {x y : List ℕ} → ((i : ℕ) → get_or x i 0 < 256) → IsArea x →
-    ((u : List ℕ) (at : ℕ) (b : List ℕ) → ((i : ℕ) → get_or u i 0 < 256) → IsArea u → ENTRIES_AT ≤ at → x ≡ splice at b u → y ≡ splice at b (encode (holding (decode u) none))) →
-    y ≡ encode (holding (decode x) none)
+    ((u : List ℕ) (at : ℕ) (b : List ℕ) → ((i : ℕ) → get_or u i 0 < 256) → IsArea u → ENTRIES_AT ≤ at → x ≡ splice at b u → y ≡ splice at b (encode (holding (decode u) None))) →
+    y ≡ encode (holding (decode x) None)
 unfolding splice
 forgot_plainly {x} w r f = f x ENTRIES_AT [] w r (omega arith) refl
 
@@ -139,17 +139,17 @@ zeros_bytes (suc n) at x w = zeros_bytes n (suc at) (set x at 0) (set-byte x at 
 
 module _ (x : List ℕ) (w : (i : ℕ) → get_or x i 0 < 256) (r : IsArea x) where
   abbrev pub unheld : List ℕ
-  unheld = encode (holding (decode x) none)
+  unheld = encode (holding (decode x) None)
 
   pub unheld_bytes : (i : ℕ) → get_or unheld i 0 < 256
   unheld_bytes i =
       let e : splice HELD_FIELD_AT (replicate HELD_FIELD_SIZE 0) x ≡ unheld =
-      ap (λ (b : List ℕ). splice HELD_FIELD_AT b x) (sym none_put) ∙ held-set x w r none tt refl refl in
+      ap (λ (b : List ℕ). splice HELD_FIELD_AT b x) (sym none_put) ∙ held-set x w r None tt refl refl in
       rw e at (zeros_bytes HELD_FIELD_SIZE HELD_FIELD_AT x w i)
 
   pub unheld_stands :
       (place : ℕ) (e : Event) {y x₁ y₁ x₂ : List ℕ} → EventStands place e x y x₁ y₁ →
-      ((u : List ℕ) (at : ℕ) (b : List ℕ) → ((i : ℕ) → get_or u i 0 < 256) → IsArea u → ENTRIES_AT ≤ at → x₁ ≡ splice at b u → x₂ ≡ splice at b (encode (holding (decode u) none))) →
+      ((u : List ℕ) (at : ℕ) (b : List ℕ) → ((i : ℕ) → get_or u i 0 < 256) → IsArea u → ENTRIES_AT ≤ at → x₁ ≡ splice at b u → x₂ ≡ splice at b (encode (holding (decode u) None))) →
       EventStands place e unheld y x₂ y₁
   unfolding splice
   unheld_stands place e s f =

@@ -1,7 +1,6 @@
 -- What the writes make of a session, and of both areas.
 -- Assumes nothing.
-use Rattle.std.specs.Prelude.{◌≡◌, List, [], ◌∷◌, ◌++◌, ℕ, ◌+◌, ◌*◌, length}
-use Rattle.std.proofs.Math.Option.{Option}
+use Rattle.std.specs.Prelude.{◌≡◌, List, [], ◌∷◌, ◌++◌, ℕ, ◌+◌, ◌*◌, length, Option}
 use Rattle.area.specs.Splice.{splice}
 use Rattle.session.specs.Limits.{ANSWER_EVENTS_AT, ANSWER_EVENT_SIZE}
 use Rattle.session.specs.Event.{Event, Held}

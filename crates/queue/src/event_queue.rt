@@ -1,7 +1,6 @@
 // tao's PendingEventQueue::complete_pending and remove_pending, with drain_pending (SCOPE 4.2, 4.3): resolving the first entry empties the queue
 // and hands out the completed ones; any other completed entry waits.
-ghost use Rattle.std.specs.Prelude.{true, List, ◌≡◌, ℕ, ◌≤◌, ◌<◌, get_or, length, take, drop};
-ghost use Rattle.std.proofs.Math.Option.{some, none};
+ghost use Rattle.std.specs.Prelude.{true, List, ◌≡◌, ℕ, ◌≤◌, ◌<◌, get_or, length, take, drop, Some, None};
 ghost use Rattle.session.specs.Area.{info, decode};
 ghost use Rattle.session.specs.Builder.{release_event};
 ghost use Rattle.session.specs.Calls.{drain};
@@ -15,8 +14,8 @@ ghost use Rattle.queue.specs.Room.{IsArea};
 ghost use Rattle.queue.specs.Stands.{EventStands, info_place};
 
 use session::{
-    ANSWER_EVENT_SIZE, ANSWER_EVENTS_AT, ENTRIES_AT, ENTRY_EVENT_AT, ENTRY_SIZE, EVENT_SIZE,
-    KeyEvent, PendingMessageToken,
+    ANSWER_EVENT_SIZE, ANSWER_EVENTS_AT, ENTRIES_AT, ENTRY_SIZE, EVENT_SIZE, KeyEvent,
+    PendingMessageToken,
 };
 
 // ---- drain_pending
@@ -47,12 +46,9 @@ fn drain_pending(session: &[u8], first: usize, answers: &mut [u8], written: usiz
     ensures { Written written (drain (drop first (decode session.now).entries)) answers.old answers.new result }
 {
     let h = record::read::header_at(session);
-    let n = h.count as usize;
     let mut at = written;
-    let mut i = first;
-    while i < n {
+    for i in first..h.count as usize {
         at = drain_one(session, i, answers, at);
-        i += 1;
     }
     at
 }
@@ -64,12 +60,9 @@ pub fn put_event(session: &mut [u8], answers: &mut [u8], place: usize, block: &[
     requires { (length session.old ≡ AREA) × (length answers.old ≡ AREA) × (place < ENTRIES_MOST) × EventIn block.now e }
     ensures { EventStands place (event_in block.now e) session.old answers.old session.new answers.new }
 {
-    if place == 0 {
-        crate::answers::put_event_at(answers, 0, block, e);
-        return;
-    }
-    let at = ENTRIES_AT + ENTRY_SIZE * place + ENTRY_EVENT_AT;
-    record::layout::put_event(session, at, block, e);
+    crate::held_event::write_field(session, answers, place, 0, |s, at| {
+        record::layout::put_event(s, at, block, e)
+    });
 }
 
 // The event of the open release at a place, written where it goes from the release itself: in its own entry its logical key stays where it is.
@@ -93,7 +86,7 @@ pub fn complete_pending(
     token: PendingMessageToken,
 )
     requires { (length session.old ≡ AREA) × (length answers.old ≡ AREA) × (place < ENTRIES_MOST) × (token.0 < 65536) × (place ≡ 0 → StandsAt session.old token.0 place) }
-    ensures { (x y : List ℕ) (e : Event) → ((i : ℕ) → get_or x i 0 < 256) → StandsAt x token.0 place → event_fits e ≡ true → length y ≡ AREA → EventStands place e x y session.old answers.old → Does (resolved_by (decode x) token.0 (some e)) session.new answers.new }
+    ensures { (x y : List ℕ) (e : Event) → ((i : ℕ) → get_or x i 0 < 256) → StandsAt x token.0 place → event_fits e ≡ true → length y ≡ AREA → EventStands place e x y session.old answers.old → Does (resolved_by (decode x) token.0 (Some e)) session.new answers.new }
 {
     if place == 0 { // the event of the first entry
         let n = drain_pending(session, 1, answers, 1);
@@ -105,7 +98,7 @@ pub fn complete_pending(
     crate::pending::complete(session, place, token);
 }
 
-// The entry at a place, which carries the token, dropped.
+// The entry at a place, which carries the token, dropped. The same two ways as above, but in each something else is left.
 pub fn remove_pending(
     session: &mut [u8],
     answers: &mut [u8],
@@ -113,7 +106,7 @@ pub fn remove_pending(
     token: PendingMessageToken,
 )
     requires { StandsAt session.old token.0 place × (length answers.old ≡ AREA) }
-    ensures { Does (resolved_by (decode session.old) token.0 none) session.new answers.new }
+    ensures { Does (resolved_by (decode session.old) token.0 None) session.new answers.new }
 {
     if place == 0 {
         let n = drain_pending(session, 1, answers, 0);

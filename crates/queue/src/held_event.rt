@@ -1,8 +1,9 @@
 // The event that completes the held press, written where it goes: into the answer area where the press's entry is the first, else into the entry.
 // What the event has of the press goes there straight from the press as it stands in the session's area, the layout's text straight from the
 // block. The fields are written from the last to the first, so that each joins what stands behind it. docs/AREAS.md has their offsets.
-ghost use Rattle.std.specs.Prelude.{false, ◌≡◌, ◌+◌, ◌≤◌, ◌<◌, length, replicate};
+ghost use Rattle.std.specs.Prelude.{false, List, ◌≡◌, ℕ, ◌+◌, ◌≤◌, ◌<◌, length, replicate};
 ghost use Rattle.area.specs.Pick.{pick};
+ghost use Rattle.area.specs.Splice.{splice};
 ghost use Rattle.keys.specs.Text.{character, unidentified, text_from};
 ghost use Rattle.keys.specs.declared.NativeKeyCode.TheVariants.{Windows};
 ghost use Rattle.lookup.specs.Codes.{key_code_of};
@@ -11,7 +12,7 @@ ghost use Rattle.session.specs.Area.{bytes_of, location, state, flag, key_code, 
 ghost use Rattle.session.specs.Builder.{typed_text, dead_char_event};
 ghost use Rattle.session.specs.Codec.{pair};
 ghost use Rattle.session.specs.InBlock.{last_in, LastFits, last_key, completed_with};
-ghost use Rattle.session.specs.Limits.{ENTRIES_MOST, EVENT_SIZE, TEXT_MOST as text_most, KEY_TEXT_MOST as key_text_most};
+ghost use Rattle.session.specs.Limits.{ANSWER_EVENTS_AT as answer_events_at, ENTRIES_MOST, EVENT_SIZE, TEXT_MOST as text_most, KEY_TEXT_MOST as key_text_most};
 ghost use Rattle.session.specs.declared.ElementState.TheVariants.{Pressed};
 ghost use Rattle.queue.specs.Completing.{Completing, held_in, rest_of};
 ghost use Rattle.queue.specs.Stands.{event_place, FieldStands, EventStands};
@@ -57,16 +58,39 @@ fn event_at(place: usize) -> usize
     ENTRIES_AT + ENTRY_SIZE * place + ENTRY_EVENT_AT
 }
 
+// Writes a field at an offset of the event of the entry at a place, into the area where the event goes.
+pub(crate) fn write_field<F: FnOnce(&mut [u8], usize)>(
+    session: &mut [u8],
+    answers: &mut [u8],
+    place: usize,
+    off: usize,
+    write: F,
+)
+    requires few { place < ENTRIES_MOST }
+    requires within { off ≤ EVENT_SIZE }
+    requires first { place ≡ 0 → (s : _) → s.now ≡ answers.old → F.pre write s (answer_events_at + off) }
+    requires later { (place ≡ 0 → ⊥) → (s : _) → s.now ≡ session.old → F.pre write s (event_place place + off) }
+    ensures { (b : List ℕ) → ((s t : _) (at : ℕ) → F.post write s at tt t → t.now ≡ splice at b s.now) → FieldStands place off b session.old answers.old session.new answers.new }
+{
+    if place == 0 {
+        write(answers, ANSWER_EVENTS_AT + off);
+        return;
+    }
+    write(session, event_at(place) + off);
+}
+
 // `count` zeros at an offset of the event.
 fn put_zeros(session: &mut [u8], answers: &mut [u8], place: usize, off: usize, count: usize)
     requires { Completing session.old answers.old place × (off + count ≤ EVENT_SIZE) }
     ensures { FieldStands place off (replicate count 0) session.old answers.old session.new answers.new }
 {
-    if place == 0 {
-        area::span::put_zeros(answers, ANSWER_EVENTS_AT + off, count);
-        return;
-    }
-    area::span::put_zeros(session, event_at(place) + off, count);
+    write_field(
+        session,
+        answers,
+        place,
+        off,
+        |s, at| area::span::put_zeros(s, at, count),
+    );
 }
 
 // The key code.
@@ -74,11 +98,13 @@ fn put_code(session: &mut [u8], answers: &mut [u8], place: usize, code: KeyCode)
     requires { Completing session.old answers.old place }
     ensures { FieldStands place 0 (key_code.put code) session.old answers.old session.new answers.new }
 {
-    if place == 0 {
-        record::write::put_code(answers, ANSWER_EVENTS_AT, code);
-        return;
-    }
-    record::write::put_code(session, event_at(place), code);
+    write_field(
+        session,
+        answers,
+        place,
+        0,
+        |s, at| record::write::put_code(s, at, code),
+    );
 }
 
 // Location, state, repeat, synthetic.
@@ -86,19 +112,9 @@ fn put_marks(session: &mut [u8], answers: &mut [u8], place: usize, l: KeyLocatio
     requires { Completing session.old answers.old place }
     ensures { FieldStands place 111 ((pair location (pair state (pair flag flag))).put (l, (Pressed, (repeat, false)))) session.old answers.old session.new answers.new }
 {
-    if place == 0 {
-        record::write::put_marks(
-            answers,
-            ANSWER_EVENTS_AT + MARKS_AT,
-            l,
-            ElementState::Pressed,
-            repeat,
-            false,
-        );
-        return;
-    }
-    let at = event_at(place) + MARKS_AT;
-    record::write::put_marks(session, at, l, ElementState::Pressed, repeat, false);
+    write_field(session, answers, place, MARKS_AT, |s, at| {
+        record::write::put_marks(s, at, l, ElementState::Pressed, repeat, false)
+    });
 }
 
 // The text that a key of the layout gives.
@@ -114,27 +130,25 @@ fn put_layout_text(
     requires { Completing session.old answers.old place × (off + (1 + text_most) ≤ EVENT_SIZE) × (length (bytes_of (text_from (part_of block.now k) t)) ≤ text_most) }
     ensures { FieldStands place off (opt_text.put (text_from (part_of block.now k) t)) session.old answers.old session.new answers.new }
 {
-    if place == 0 {
-        record::layout::put_text(answers, ANSWER_EVENTS_AT + off, block, k, t);
-        return;
-    }
-    record::layout::put_text(session, event_at(place) + off, block, k, t);
+    write_field(session, answers, place, off, |s, at| {
+        record::layout::put_text(s, at, block, k, t)
+    });
 }
 
 // An unidentified logical key, with its scan code.
+#[tactic(auto, unfolding(keys::specs::Text::full))]
 fn put_unidentified(session: &mut [u8], answers: &mut [u8], place: usize, scancode: u16)
     requires { Completing session.old answers.old place }
     ensures { FieldStands place 6 ((full_key text_most).put (unidentified (Windows scancode))) session.old answers.old session.new answers.new }
 {
     let key = Key::Unidentified(NativeKeyCode::Windows(scancode));
-    if place == 0 {
-        record::layout::put_bare_key(answers, ANSWER_EVENTS_AT + KEY_AT, TEXT_MOST, key);
-        return;
-    }
-    record::layout::put_bare_key(session, event_at(place) + KEY_AT, TEXT_MOST, key);
+    write_field(session, answers, place, KEY_AT, |s, at| {
+        record::layout::put_bare_key(s, at, TEXT_MOST, key)
+    });
 }
 
-// The logical key that the press is held with.
+// The logical key that the press is held with. Here and in the next two the writer reads the press in session, which no closure could borrow beside
+// write_field.
 fn put_kept_key(session: &mut [u8], answers: &mut [u8], place: usize)
     requires { Completing session.old answers.old place }
     ensures { FieldStands place 6 ((full_key text_most).put (held_in session.old).info.logical_key) session.old answers.old session.new answers.new }

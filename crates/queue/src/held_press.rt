@@ -1,6 +1,5 @@
 // The held press of a session's area: set, with units added, forgotten.
-ghost use Rattle.std.specs.Prelude.{true, List, [], ◌≡◌, ℕ, ◌+◌, ◌≤◌, ◌<◌, get_or, length};
-ghost use Rattle.std.proofs.Math.Option.{some, none};
+ghost use Rattle.std.specs.Prelude.{true, List, [], ◌≡◌, ℕ, ◌+◌, ◌≤◌, ◌<◌, get_or, length, Some, None};
 ghost use Rattle.area.specs.Splice.{splice};
 ghost use Rattle.text.specs.Message.{char_units};
 ghost use Rattle.session.specs.Area.{encode, decode};
@@ -17,8 +16,8 @@ use session::{HELD_AT, HELD_FIELD_AT, PartialKeyEventInfo};
 
 // A press is held, with no units yet.
 pub fn set_held(session: &mut [u8], block: &[u8], n: PartialKeyEventInfo, vkey: u16, mark: bool)
-    requires { IsArea session.old × InfoIn block.now n × (held_fits (some (record { info = info_in block.now n; vkey = vkey; mark = mark; units = [] })) ≡ true) }
-    ensures { session.new ≡ encode (holding (decode session.old) (some (record { info = info_in block.now n; vkey = vkey; mark = mark; units = [] }))) }
+    requires { IsArea session.old × InfoIn block.now n × (held_fits (Some (record { info = info_in block.now n; vkey = vkey; mark = mark; units = [] })) ≡ true) }
+    ensures { session.new ≡ encode (holding (decode session.old) (Some (record { info = info_in block.now n; vkey = vkey; mark = mark; units = [] }))) }
 {
     record::layout::put_held(session, HELD_FIELD_AT, block, n, vkey, mark);
 }
@@ -26,7 +25,7 @@ pub fn set_held(session: &mut [u8], block: &[u8], n: PartialKeyEventInfo, vkey: 
 // SCOPE 3.9: the units of a character message added to the press that is held.
 pub fn add_units(session: &mut [u8], wparam: u64)
     requires { IsArea session.old × (is_held (decode session.old).held ≡ true) × (length (held_in session.old).units + length (char_units wparam) ≤ UNITS_MOST) }
-    ensures { session.new ≡ encode (holding (decode session.old) (some (with_units (held_in session.old) (char_units wparam)))) }
+    ensures { session.new ≡ encode (holding (decode session.old) (Some (with_units (held_in session.old) (char_units wparam)))) }
 {
     record::complete::add_units(session, HELD_AT, wparam);
 }
@@ -34,7 +33,7 @@ pub fn add_units(session: &mut [u8], wparam: u64)
 // No press is held any more. Behind the held press the area need not be a session's: an event may stand there that no entry counts yet.
 pub fn forget_held(session: &mut [u8])
     requires { length session.old ≡ AREA }
-    ensures { (x : List ℕ) (at : ℕ) (b : List ℕ) → ((i : ℕ) → get_or x i 0 < 256) → IsArea x → ENTRIES_AT ≤ at → session.old ≡ splice at b x → session.new ≡ splice at b (encode (holding (decode x) none)) }
+    ensures { (x : List ℕ) (at : ℕ) (b : List ℕ) → ((i : ℕ) → get_or x i 0 < 256) → IsArea x → ENTRIES_AT ≤ at → session.old ≡ splice at b x → session.new ≡ splice at b (encode (holding (decode x) None)) }
 {
     record::write::put_no_held(session, HELD_FIELD_AT);
 }

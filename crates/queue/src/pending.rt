@@ -1,6 +1,5 @@
 // The entries of tao's PendingEventQueue in a session's area: added, found by their token, completed, dropped.
-ghost use Rattle.std.specs.Prelude.{true, List, ◌≡◌, ℕ, ◌+◌, ◌*◌, ◌≤◌, ◌<◌, get_or, length};
-ghost use Rattle.std.proofs.Math.Option.{some, none};
+ghost use Rattle.std.specs.Prelude.{true, List, ◌≡◌, ℕ, ◌+◌, ◌*◌, ◌≤◌, ◌<◌, get_or, length, Some, None};
 ghost use Rattle.area.specs.Bytes.{le};
 ghost use Rattle.area.specs.Splice.{splice};
 ghost use Rattle.session.specs.Area.{event, encode, decode};
@@ -43,7 +42,7 @@ fn count_one(session: &mut [u8], h: Header)
 
 // ---- open messages added (add_pending)
 
-// An open press behind the last entry.
+// An open press behind the last entry. Three functions and not one with a writer as a closure: its clause would be longer than what they share.
 pub fn add_press(session: &mut [u8], vkey: u16, l: KeyLParam) -> PendingMessageToken
     requires { HasRoom session.old }
     ensures { (result.0 ≡ (decode session.old).handed) × (session.new ≡ encode (opening (decode session.old) (press vkey l) (decode session.old).held).after) }
@@ -111,22 +110,23 @@ pub fn add_event(session: &mut [u8], block: &[u8], e: KeyEvent)
 
 // ---- open messages found and counted
 
-// SCOPE 4.1, 10.4: where the first entry that carries the token stands; behind the last where none does.
-pub fn find(session: &[u8], token: PendingMessageToken) -> usize
+// SCOPE 4.1, 10.4: where the first entry that carries the token stands.
+pub fn find(session: &[u8], token: PendingMessageToken) -> Option<usize>
     requires { IsArea session.now }
-    ensures { result ≡ place_of_token token.0 (decode session.now).entries }
+    ensures found { (place : ℕ) → result ≡ Some place → StandsAt session.now token.0 place }
+    ensures missing { result ≡ None → length (decode session.now).entries ≤ place_of_token token.0 (decode session.now).entries }
 {
     let h = record::read::header_at(session);
     let n = h.count as usize;
-    let wanted = token.0 as usize;
     let mut i: usize = 0;
+    // SCOPE 10.4 names this form, which yields the place by `break`
     let place = loop {
         if n <= i {
-            break i; // behind the last
+            break None;
         }
-        let t = record::read::token_at(&session[ENTRIES_AT + ENTRY_SIZE * i..]);
-        if t.0 as usize == wanted {
-            break i; // carried here
+        let carried = record::read::token_at(&session[ENTRIES_AT + ENTRY_SIZE * i..]);
+        if carried.0 == token.0 {
+            break Some(i); // carried here
         }
         i += 1;
     };
@@ -139,14 +139,12 @@ pub fn is_latest(session: &[u8], token: PendingMessageToken) -> bool
     ensures { result ≡ is_token token.0 (last_token (decode session.now).entries) }
 {
     let h = record::read::header_at(session);
-    let n = h.count as usize;
-    let mut i: usize = 0;
     let mut latest = false;
-    while i < n {
-        if session[ENTRIES_AT + ENTRY_SIZE * i + 2] == 0 {
-            latest = token.0 == area::get_u16(session, ENTRIES_AT + ENTRY_SIZE * i) as u32;
+    for i in 0..h.count as usize {
+        let at = ENTRIES_AT + ENTRY_SIZE * i;
+        if session[at + 2] == 0 {
+            latest = token.0 == area::get_u16(session, at) as u32;
         }
-        i += 1;
     }
     latest
 }
@@ -165,7 +163,7 @@ pub fn open_count(session: &[u8]) -> usize
 // The entry at a place, which carries the token, is complete: its event stands in it already.
 pub(crate) fn complete(session: &mut [u8], place: usize, token: PendingMessageToken)
     requires { (length session.old ≡ AREA) × (place < ENTRIES_MOST) × (token.0 < 65536) }
-    ensures { (x : List ℕ) (e : Event) → ((i : ℕ) → get_or x i 0 < 256) → StandsAt x token.0 place → event_fits e ≡ true → session.old ≡ splice (event_place place) (event.put e) x → session.new ≡ encode (with_resolved (decode x) token.0 (some e)) }
+    ensures { (x : List ℕ) (e : Event) → ((i : ℕ) → get_or x i 0 < 256) → StandsAt x token.0 place → event_fits e ≡ true → session.old ≡ splice (event_place place) (event.put e) x → session.new ≡ encode (with_resolved (decode x) token.0 (Some e)) }
 {
     record::write::put_completed(session, ENTRIES_AT + ENTRY_SIZE * place, token);
 }
@@ -173,7 +171,7 @@ pub(crate) fn complete(session: &mut [u8], place: usize, token: PendingMessageTo
 // The entry at a place, which carries the token, dropped.
 pub(crate) fn remove(session: &mut [u8], place: usize, token: PendingMessageToken)
     requires { StandsAt session.old token.0 place }
-    ensures { session.new ≡ encode (with_resolved (decode session.old) token.0 none) }
+    ensures { session.new ≡ encode (with_resolved (decode session.old) token.0 None) }
 {
     let h = record::read::header_at(session);
     let last = h.count as usize - 1;

@@ -1,9 +1,9 @@
 -- The fields of the records, as they are written: which bytes, and how many.
 -- Assumes nothing.
+use Rattle.std.specs.Prelude.{Option, Some, None}
 use mathlib.Core.Path.{◌≡◌, refl, sym, ap, ◌∙◌}
 use mathlib.Core.Bool.{Bool}
 use mathlib.Core.List.{List, [], ◌∷◌, ◌++◌, append_assoc}
-use mathlib.Core.Option.{Option, some, none}
 use Prim.Native.Nat.{ℕ, ◌+◌, ◌-◌, ◌≤◌, ◌<◌, zero-le}
 use native.Mathlib.Nat.{mul-one, mod-eq_of_lt}
 use native.Mathlib.Omega.{arith}
@@ -167,10 +167,10 @@ key_wider k h =
 
 -- ---- the held press of a session, or none
 
-pub some_put : (h : Held) → held_field.put (some h) ≡ 1 ∷ held.put h
+pub some_put : (h : Held) → held_field.put (Some h) ≡ 1 ∷ held.put h
 unfolding held_field via either
 some_put h = refl
 
-pub none_put : held_field.put none ≡ replicate HELD_FIELD_SIZE 0
+pub none_put : held_field.put None ≡ replicate HELD_FIELD_SIZE 0
 unfolding held_field via either slot nothing
 none_put = ap (λ (r : List ℕ). 0 ∷ r) (padded_none HELD_SIZE)

@@ -1,7 +1,6 @@
 // Events from the records that are kept: a release's, and the held press with the units of its characters. A key's bytes go
 // straight from the record to the event. docs/AREAS.md has the offsets.
-ghost use Rattle.std.specs.Prelude.{true, false, ◌≡◌, ◌+◌, ◌≤◌, ◌*◌, length, drop};
-ghost use Rattle.std.proofs.Math.Option.{none};
+ghost use Rattle.std.specs.Prelude.{true, false, ◌≡◌, ◌+◌, ◌≤◌, ◌*◌, length, drop, None};
 ghost use Rattle.area.specs.Splice.{splice};
 ghost use Rattle.text.specs.Message.{char_units};
 ghost use Rattle.text.specs.Stored.{units_in};
@@ -44,7 +43,7 @@ const TEXT_SIZE: usize = 1 + TEXT_MOST;
 // No text, the marks, no text with all modifiers.
 fn put_no_texts(s: &mut [u8], at: usize, l: KeyLocation, st: ElementState, repeat: bool)
     requires { at + (2 * (1 + text_most) + 4) ≤ length s.old }
-    ensures { s.new ≡ splice at ((pair opt_text (pair (pair location (pair state (pair flag flag))) opt_text)).put (none, ((l, (st, (repeat, false))), none))) s.old }
+    ensures { s.new ≡ splice at ((pair opt_text (pair (pair location (pair state (pair flag flag))) opt_text)).put (None, ((l, (st, (repeat, false))), None))) s.old }
 {
     area::span::put_zeros(s, at, TEXT_SIZE);
     crate::write::put_marks(s, at + 49, l, st, repeat, false);
@@ -88,14 +87,13 @@ pub fn complete_release(s: &mut [u8], at: usize)
 
 // One or two units.
 fn put_char_units(s: &mut [u8], at: usize, added: CharUnits)
-    requires { (at + 2 * added.len ≤ length s.old) × (1 ≤ added.len) × (added.len ≤ 2) }
+    requires { at + 2 * length (units_in added) ≤ length s.old }
     ensures { s.new ≡ splice at (put_many (number 2) (units_in added)) s.old }
 {
     area::put_u16(s, at, added.first);
-    if added.len == 1 {
-        return;
+    if let Some(second) = added.second {
+        area::put_u16(s, at + 2, second);
     }
-    area::put_u16(s, at + 2, added.second);
 }
 
 // SCOPE 3.9: adds the units of a character message to the held press, behind those that it has.
@@ -106,5 +104,5 @@ pub fn add_units(s: &mut [u8], at: usize, wparam: u64)
     let added = text::char_units(wparam);
     let n = s[at + 71] as usize;
     put_char_units(s, at + 72 + 2 * n, added);
-    area::put_u8(s, at + 71, (n + added.len) as u8);
+    area::put_u8(s, at + 71, (n + added.len()) as u8);
 }

@@ -1,7 +1,6 @@
 // Writes what is read from the layout: the texts of its keys go from the block into the area, each copied once.
 // docs/AREAS.md has the offsets.
-ghost use Rattle.std.specs.Prelude.{true, [], ◌≡◌, ◌+◌, ◌≤◌, ◌<◌, length};
-ghost use Rattle.std.proofs.Math.Option.{some};
+ghost use Rattle.std.specs.Prelude.{true, [], ◌≡◌, ◌+◌, ◌≤◌, ◌<◌, length, Some};
 ghost use Rattle.area.specs.Splice.{splice};
 ghost use Rattle.text.specs.Unicode.{scalar, utf8_of};
 ghost use Rattle.keys.specs.Text.{character, full, text_in, text_from};
@@ -12,6 +11,7 @@ ghost use Rattle.session.specs.InBlock.{info_in, plain_in, event_in, FitsIn, Inf
 ghost use Rattle.session.specs.Limits.{TEXT_MOST as text_most, KEY_TEXT_MOST as key_text_most, INFO_SIZE, EVENT_SIZE, HELD_FIELD_SIZE, ENTRY_SIZE as entry_size};
 ghost use Rattle.session.specs.Session.{release, waiting};
 
+use keys::key_number::KeyFields;
 use keys::{Key, KeyText, NativeKeyCode};
 use lookup::keyboard_layout::LayoutKey;
 use session::{
@@ -31,17 +31,14 @@ fn put_part(s: &mut [u8], at: usize, most: usize, t: &[u8])
 }
 
 // The part of the block that is a key's text: a character's own, of any other key none.
+#[tactic(auto, unfolding(keys::specs::Text::full, keys::specs::Text::text_in))]
 fn own_part<'a>(block: &'a [u8], k: LayoutKey) -> &'a [u8]
     ensures { result.now ≡ text_in (key_in block.now k) }
 {
-    let key = k.key;
-    match key {
-        Key::Character => lookup::keyboard_layout::key_text(block, k),
-        Key::Named(_) => &block[0..0],
-        Key::Unidentified(_) => &block[0..0],
-        Key::Dead => &block[0..0],
-        Key::DeadChar(_) => &block[0..0],
+    if let Key::Character = k.key {
+        return lookup::keyboard_layout::key_text(block, k);
     }
+    &block[0..0]
 }
 
 // A key's number, what it holds beside it, its text t.
@@ -49,7 +46,7 @@ fn put_with(s: &mut [u8], at: usize, most: usize, key: Key, t: &[u8])
     requires { (at + (8 + most) ≤ length s.old) × (length t.now ≤ most) × (most ≤ text_most) × (text_in (full key t.now) ≡ t.now) }
     ensures { s.new ≡ splice at ((full_key most).put (full key t.now)) s.old }
 {
-    let f = keys::key_number::key_fields(key);
+    let f = KeyFields::from(key);
     area::put_u16(s, at, f.number);
     area::put_u8(s, at + 2, f.aux);
     area::put_u32(s, at + 3, f.value);
@@ -87,6 +84,7 @@ fn put_scalar_key(s: &mut [u8], at: usize, c: u32)
 }
 
 // A dead key as its character, as an unidentified one where it has none; any other key as it is.
+#[tactic(auto, using(crate::proofs::layout::Keys::scalar_in), unfolding(keys::specs::Text::full, keys::specs::Text::text_in, session::specs::Builder::undead))]
 fn put_undead_key(s: &mut [u8], at: usize, block: &[u8], k: LayoutKey)
     requires { (at + (8 + key_text_most) ≤ length s.old) × FitsIn block.now k }
     ensures { s.new ≡ splice at ((full_key key_text_most).put (undead (key_in block.now k))) s.old }
@@ -101,9 +99,13 @@ fn put_undead_key(s: &mut [u8], at: usize, block: &[u8], k: LayoutKey)
             &block[0..0],
         ),
         Key::DeadChar(c) => put_scalar_key(s, at, c),
-        Key::Character => put_key(s, at, KEY_TEXT_MOST, block, k),
-        Key::Named(_) => put_key(s, at, KEY_TEXT_MOST, block, k),
-        Key::Unidentified(_) => put_key(s, at, KEY_TEXT_MOST, block, k),
+        Key::Character | Key::Named(_) | Key::Unidentified(_) => put_key(
+            s,
+            at,
+            KEY_TEXT_MOST,
+            block,
+            k,
+        ),
     }
 }
 
@@ -166,7 +168,7 @@ pub fn put_info(s: &mut [u8], at: usize, block: &[u8], n: PartialKeyEventInfo)
     let location = n.location;
     area::put_u16(s, at, n.scancode);
     crate::write::put_flag(s, at + 2, n.is_repeat);
-    area::put_u8(s, at + 3, keys::native_code::location_number(location));
+    area::put_u8(s, at + 3, u8::from(location));
     put_key(s, at + 4, KEY_TEXT_MOST, block, n.logical_key);
     put_undead_key(s, at + 36, block, n.key_without_modifiers);
 }
@@ -184,7 +186,7 @@ pub fn put_held(
     mark: bool,
 )
     requires { (at + HELD_FIELD_SIZE ≤ length s.old) × InfoIn block.now n }
-    ensures { s.new ≡ splice at (held_field.put (some (record { info = info_in block.now n; vkey = vkey; mark = mark; units = [] }))) s.old }
+    ensures { s.new ≡ splice at (held_field.put (Some (record { info = info_in block.now n; vkey = vkey; mark = mark; units = [] }))) s.old }
 {
     area::put_u8(s, at, 1);
     put_info(s, at + 1, block, n);

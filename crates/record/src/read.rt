@@ -113,13 +113,11 @@ pub fn open_count(s: &[u8], n: usize) -> usize
     requires { (n ≤ ENTRIES_MOST) × (n * entry_size ≤ length s.now) }
     ensures { result ≡ open_count (get_many entry n s.now) }
 {
-    let mut i: usize = 0;
     let mut open: usize = 0;
-    while i < n {
+    for i in 0..n {
         if s[ENTRY_SIZE * i + 2] == 0 {
             open += 1;
         }
-        i += 1;
     }
     open
 }

@@ -25,8 +25,6 @@ pub fn put_typed_within(s: &mut [u8], from: usize, to: usize)
     requires { (from + (1 + 2 * UNITS_MOST) ≤ to) × ((list_of 1 UNITS_MOST (number 2)).ok (drop from s.old) ≡ true) × (to + (1 + text_most) ≤ length s.old) }
     ensures { s.new ≡ splice to (opt_text.put (typed_text ((list_of 1 UNITS_MOST (number 2)).get (drop from s.old)))) s.old }
 {
-    let n = s[from] as usize;
-    let len = text::utf16::put_text_within(s, from + 1, n, to + 1);
-    area::span::put_zeros(s, to + 1 + len, TEXT_MOST - len);
-    area::put_u8(s, to, len as u8);
+    let (list, field) = s.split_at_mut(to);
+    put_typed(list, from, field, 0);
 }

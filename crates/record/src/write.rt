@@ -1,10 +1,9 @@
 // Writes numbers, marks, open presses and characters, the mark of a completed entry, and a fresh session. docs/AREAS.md has the offsets.
-ghost use Rattle.std.specs.Prelude.{[], ◌∷◌, ◌++◌, ◌≡◌, ◌+◌, ◌≤◌, ◌<◌, eqb, length};
-ghost use Rattle.std.proofs.Math.Option.{none};
+ghost use Rattle.std.specs.Prelude.{[], ◌∷◌, ◌++◌, ◌≡◌, ◌+◌, ◌≤◌, ◌<◌, eqb, length, None};
 ghost use Rattle.area.specs.Bytes.{le};
 ghost use Rattle.area.specs.Pick.{pick};
 ghost use Rattle.area.specs.Splice.{splice};
-ghost use Rattle.session.specs.Area.{flag_number, flag, state_number, state, location, key_code, pressed, held_field, encode, entry};
+ghost use Rattle.session.specs.Area.{flag, state, location, key_code, pressed, held_field, encode, entry};
 ghost use Rattle.session.specs.Codec.{pair};
 ghost use Rattle.session.specs.Limits.{AREA, ENTRY_SIZE as entry_size, HELD_FIELD_SIZE as held_field_size};
 ghost use Rattle.session.specs.Session.{fresh_session, press, character, waiting};
@@ -16,18 +15,12 @@ use session::{AREA_SIZE, ENTRY_SIZE, ElementState, HELD_FIELD_SIZE, PendingMessa
 
 // ---- flags
 
-fn flag_number(b: bool) -> u8
-    ensures { result ≡ flag_number b }
-{
-    if b { 1 } else { 0 }
-}
-
 // A flag, as one byte.
 pub(crate) fn put_flag(s: &mut [u8], at: usize, b: bool)
     requires { at + 1 ≤ length s.old }
     ensures { s.new ≡ splice at (flag.put b) s.old }
 {
-    area::put_u8(s, at, flag_number(b));
+    area::put_u8(s, at, u8::from(b));
 }
 
 // ---- parts of an event
@@ -42,15 +35,6 @@ pub fn put_code(s: &mut [u8], at: usize, c: KeyCode)
     area::put_u16(s, at + 4, (key / 0x1_0000_0000 % 0x1_0000) as u16);
 }
 
-fn state_number(st: ElementState) -> u8
-    ensures { result ≡ state_number st }
-{
-    match st {
-        ElementState::Pressed => 0,
-        ElementState::Released => 1,
-    }
-}
-
 // Location, state, repeat, synthetic.
 pub fn put_marks(
     s: &mut [u8],
@@ -63,8 +47,8 @@ pub fn put_marks(
     requires { at + 4 ≤ length s.old }
     ensures { s.new ≡ splice at ((pair location (pair state (pair flag flag))).put (l, (st, (repeat, synthetic)))) s.old }
 {
-    area::put_u8(s, at, keys::native_code::location_number(l));
-    area::put_u8(s, at + 1, state_number(st));
+    area::put_u8(s, at, u8::from(l));
+    area::put_u8(s, at + 1, st as u8);
     put_flag(s, at + 2, repeat);
     put_flag(s, at + 3, synthetic);
 }
@@ -86,7 +70,7 @@ fn put_pressed(s: &mut [u8], at: usize, vkey: u16, l: KeyLParam)
 
 pub fn put_no_held(s: &mut [u8], at: usize)
     requires { at + held_field_size ≤ length s.old }
-    ensures { s.new ≡ splice at (held_field.put none) s.old }
+    ensures { s.new ≡ splice at (held_field.put None) s.old }
 {
     area::span::put_zeros(s, at, HELD_FIELD_SIZE);
 }

@@ -1,528 +1,361 @@
 // Replays calls with tao's own answers (data/calls, whose form oracle/README.md describes), and says where an answer is another.
 #![tactic(auto)]
 
-use event::peeked::Peeked;
-use session::{ANSWER_EVENT_SIZE, AREA_SIZE, COUNT_AT, PendingMessageToken, ProcResult};
-use show::{Said, byte_at, decimal, text, u16_at, u32_at, u64_at};
-use std::io::Read;
-use std::{fs, io};
+use export::numbers::refusal_number;
+use session::{
+    ANSWER_EVENT_SIZE, ANSWER_EVENTS_AT, AREA_SIZE, COUNT_AT, HELD_FIELD_AT, KEY_STATE_SIZE,
+    Message, PendingMessageToken, ProcResult, Refusal,
+};
+use show::{Host, Reader, read_file, u16_at};
+use std::{fmt, io};
 
 // ---- the file
 
-fn wide(x: u8) -> usize {
-    x as usize
-}
-
-// The place behind a byte of the file.
-fn behind(d: &[u8], at: usize) -> usize {
-    if at < d.len() {
-        return at + 1;
-    }
-    at
-}
-
-// Unpacks a field from `from` on, and answers the place behind it.
-fn unpack(d: &[u8], from: usize, out: &mut [u8]) -> usize {
-    show::fill(out, 0);
-    let mut at = from;
-    let mut n: usize = 0;
-    while n < out.len() {
-        let zeros = wide(byte_at(d, at));
-        at = behind(d, at);
-        if 255 <= zeros {
-            return at;
-        }
-        if out.len() - n <= zeros {
-            return at;
-        }
-        out[n + zeros] = byte_at(d, at);
-        at = behind(d, at);
-        n = n + zeros + 1;
-    }
-    at
-}
-
-// A part of the file.
+// A part of the file, and the place behind it. One that the file ends before is empty, and behind it stands the file's first byte.
 #[derive(Clone, Copy)]
-struct Part {
-    from: usize,
-    to: usize,
+struct Part<'a> {
+    bytes: &'a [u8],
+    next: usize,
 }
 
-// The part of that many bytes from `from` on; empty where the file ends before.
-fn part_from(d: &[u8], from: usize, count: usize) -> Part {
-    if d.len() < from {
-        return Part { from: 0, to: 0 };
+fn part_from<'a>(file: &'a [u8], from: usize, count: usize) -> Part<'a> {
+    let next = from.saturating_add(count);
+    match file.get(from..next) {
+        Some(bytes) => Part { bytes, next },
+        None => Part {
+            bytes: &[],
+            next: 0,
+        },
     }
-    if d.len() - from < count {
-        return Part { from: 0, to: 0 };
-    }
-    Part {
-        from,
-        to: from + count,
-    }
-}
-
-fn bytes_of(d: &[u8], p: Part) -> &[u8] {
-    let from = p.from;
-    let to = p.to;
-    if to < from {
-        return &d[0..0];
-    }
-    if d.len() < to {
-        return &d[0..0];
-    }
-    &d[from..to]
 }
 
 // The file begins with two lists, of blocks and of break tables: 1 byte says how many there are, and 4 bytes before each how long it is.
 
 // The block or table that starts at a place.
-fn listed_from(d: &[u8], at: usize) -> Part {
-    if d.len() < 4 {
-        return Part { from: 0, to: 0 };
+fn listed_from<'a>(file: &'a [u8], at: usize) -> Part<'a> {
+    let head = part_from(file, at, 4);
+    match head.bytes.first_chunk() {
+        Some(length) => part_from(file, head.next, u32::from_le_bytes(*length) as usize),
+        None => head,
     }
-    if d.len() - 4 < at {
-        return Part { from: 0, to: 0 };
-    }
-    part_from(d, at + 4, u32_at(d, at) as usize)
 }
 
 // The one of a number, in the list that starts at a place.
-fn listed(d: &[u8], list: usize, number: u8) -> Part {
-    let mut p = listed_from(d, behind(d, list));
-    let mut i: u8 = 0;
-    while i < number {
-        p = listed_from(d, p.to);
-        i += 1;
+fn listed<'a>(file: &'a [u8], list: usize, number: u8) -> Part<'a> {
+    let mut found = listed_from(file, list.saturating_add(1));
+    for _ in 0..number {
+        found = listed_from(file, found.next);
     }
-    p
+    found
 }
 
 // The place behind a list.
-fn behind_list(d: &[u8], list: usize) -> usize {
-    let count = byte_at(d, list);
-    if count == 0 {
-        return behind(d, list);
+fn behind_list(file: &[u8], list: usize) -> usize {
+    match file.get(list) {
+        None => list,
+        Some(0) => list.saturating_add(1),
+        Some(count) => listed(file, list, count - 1).next,
     }
-    let p = listed(d, list, count - 1);
-    p.to
 }
 
 const BLOCKS_AT: usize = 0;
 
-fn tables_at(d: &[u8]) -> usize {
-    behind_list(d, BLOCKS_AT)
+// Unpacks a field: pairs of a number of zeros and the byte behind them; 255 stands for zeros to the field's end.
+fn unpack(file: &mut Reader<'_>, field: &mut [u8]) {
+    field.fill(0);
+    let mut rest = field;
+    while !rest.is_empty() {
+        let zeros = usize::from(file.u8());
+        if zeros == 255 || rest.len() <= zeros {
+            return;
+        }
+        rest[zeros] = file.u8();
+        rest = &mut rest[zeros + 1..];
+    }
 }
 
 // ---- a call
 
-fn as_expected(r: &[u8], s: Said) -> bool {
-    s.what == byte_at(r, 29) && s.number == u32_at(r, 30)
+const RECORD_SIZE: usize = 48;
+
+// What a call says, in the file's numbers: 0 and the refusal's number, 1 where it opened none or finished, 2 and the token.
+#[derive(Clone, Copy, PartialEq, Eq)]
+struct Answer {
+    what: u8,
+    number: u32,
 }
 
-// The message result of a record's nine bytes: 0 or 1, and the value's bits.
+impl From<Result<Option<PendingMessageToken>, Refusal>> for Answer {
+    fn from(said: Result<Option<PendingMessageToken>, Refusal>) -> Answer {
+        match said {
+            Err(no) => Answer {
+                what: 0,
+                number: refusal_number(no),
+            },
+            Ok(None) => Answer { what: 1, number: 0 },
+            Ok(Some(token)) => Answer {
+                what: 2,
+                number: token.0,
+            },
+        }
+    }
+}
+
+// A record of a call, and what tao did.
+#[derive(Drop)]
+struct Record<'a> {
+    // what is opened, or peeked
+    message: Message,
+    // the message result that an open is lent; the token of a finish, and whether a message was peeked
+    given: Reader<'a>,
+    answer: Answer,
+    result: ProcResult,
+    tokens: u16,
+    held: u8,
+    entries: u16,
+}
+
+// A message result that was set: the default procedure's, or the value with the bits.
 fn result_of(tag: u8, bits: u64) -> ProcResult {
-    if tag == 0 {
-        return ProcResult::DefWindowProc;
+    match tag {
+        0 => ProcResult::DefWindowProc,
+        _ => ProcResult::Value(bits.cast_signed()),
     }
-    ProcResult::Value(show::signed(bits))
 }
 
-// The message result that an open is lent: a new one, or the one that the last open left.
-fn lent_by(r: &[u8], last: ProcResult) -> ProcResult {
-    let tag = byte_at(r, 20);
-    if tag == 2 {
-        return last;
+fn read_record<'a>(mut bytes: Reader<'a>) -> Record<'a> {
+    Record {
+        message: Message {
+            kind: bytes.u32(),
+            wparam: bytes.u64(),
+            lparam: bytes.u64(),
+        },
+        given: Reader {
+            rest: bytes.slice(9),
+        },
+        answer: Answer {
+            what: bytes.u8(),
+            number: bytes.u32(),
+        },
+        result: result_of(bytes.u8(), bytes.u64()),
+        tokens: bytes.u16(),
+        held: bytes.u8(),
+        entries: bytes.u16(),
     }
-    result_of(tag, u64_at(r, 21))
 }
 
-fn peeked_at(r: &[u8]) -> Peeked {
-    if byte_at(r, 24) == 0 {
-        return Peeked::Nothing;
-    }
-    Peeked::Message(u32_at(r, 0), u64_at(r, 4), u64_at(r, 12))
-}
-
-// What a call did otherwise than tao.
+// What a call did otherwise than tao; of events, at which byte of the answer area.
 #[derive(Clone, Copy)]
-enum Differs {
-    Nowhere,
+enum Difference {
     Answer,
     Result,
     Session,
-    Events,
+    Events(usize),
 }
 
-// A call: what it did otherwise than tao in its answer and the message result, and that result.
-#[derive(Clone, Copy)]
-struct Called {
-    differs: Differs,
-    result: ProcResult,
-}
-
-fn open_differs(r: &[u8], said: Said, res: ProcResult) -> Differs {
-    if !as_expected(r, said) {
-        return Differs::Answer;
-    }
-    if !show::same_result(res, result_of(byte_at(r, 34), u64_at(r, 35))) {
-        return Differs::Result;
-    }
-    Differs::Nowhere
-}
-
-fn open(
-    r: &[u8],
-    session: &mut [u8; AREA_SIZE],
-    answers: &mut [u8; AREA_SIZE],
-    state: &[u8; 256],
-    block: &[u8],
-    table: &[u8],
-    last: ProcResult,
-) -> Called {
-    let o = message::process_message::lend_result(
-        session,
-        answers,
-        state,
-        block,
-        table,
-        u32_at(r, 0),
-        u64_at(r, 4),
-        u64_at(r, 12),
-        lent_by(r, last),
-    );
-    let a = o.answer;
-    let result = o.result;
-    Called {
-        differs: open_differs(r, show::said_by_open(a), result),
-        result,
-    }
-}
-
-fn finish(
-    r: &[u8],
-    session: &mut [u8; AREA_SIZE],
-    answers: &mut [u8; AREA_SIZE],
-    state: &[u8; 256],
-    block: &[u8],
-    table: &[u8],
-) -> Differs {
-    let token = PendingMessageToken(u32_at(r, 20));
-    let a = message::finish(session, answers, state, block, table, token, peeked_at(r));
-    if !as_expected(r, show::said_by_finish(a)) {
-        return Differs::Answer;
-    }
-    Differs::Nowhere
-}
-
-// Tokens handed out, whether a press is held, the number of entries.
-fn session_differs(r: &[u8], session: &[u8]) -> bool {
-    u16_at(session, 0) != u16_at(r, 43)
-        || byte_at(session, 2) != byte_at(r, 45)
-        || u16_at(session, COUNT_AT) != u16_at(r, 46)
-}
-
-fn areas_differ(r: &[u8], session: &[u8], answers: &[u8], expected: &[u8]) -> Differs {
-    if session_differs(r, session) {
-        return Differs::Session;
-    }
-    if !show::same(answers, expected) {
-        return Differs::Events;
-    }
-    Differs::Nowhere
-}
-
-// ---- what is printed
-
-fn show_count(rt: &impl Print, calls: u64, events: u64) -> io::Result<()> {
-    decimal(rt, calls)?;
-    text(rt, b" calls, ")?;
-    decimal(rt, events)?;
-    text(rt, b" events")
-}
-
-fn show_event_place(rt: &impl Print, at: usize) -> io::Result<()> {
-    if at < 2 {
-        return text(rt, b"their number");
-    }
-    text(rt, b"event ")?;
-    decimal(rt, ((at - 2) / ANSWER_EVENT_SIZE) as u64)?;
-    text(rt, b", byte ")?;
-    decimal(rt, ((at - 2) % ANSWER_EVENT_SIZE) as u64)
-}
-
-// What the last call of a script did otherwise than tao; nothing where it did not.
-fn show_difference(
-    rt: &impl Print,
-    d: Differs,
-    answers: &[u8; AREA_SIZE],
-    expected: &[u8; AREA_SIZE],
-) -> io::Result<()> {
-    match d {
-        Differs::Nowhere => Ok(()),
-        Differs::Answer => text(rt, b"another answer\n"),
-        Differs::Result => text(rt, b"another result\n"),
-        Differs::Session => text(rt, b"another session\n"),
-        Differs::Events => {
-            text(rt, b"other events: ")?;
-            show_event_place(rt, show::first_difference(answers, expected))?;
-            text(rt, b"\n")
+impl fmt::Display for Difference {
+    fn fmt<W: fmt::Write>(&self, f: &mut fmt::Formatter<W>) -> fmt::Result {
+        match *self {
+            Difference::Answer => write!(f, "another answer"),
+            Difference::Result => write!(f, "another result"),
+            Difference::Session => write!(f, "another session"),
+            Difference::Events(at) => match at.checked_sub(ANSWER_EVENTS_AT) {
+                None => write!(f, "other events: their number"),
+                Some(at) => {
+                    let event = at / ANSWER_EVENT_SIZE;
+                    let byte = at % ANSWER_EVENT_SIZE;
+                    write!(f, "other events: event {event}, byte {byte}")
+                }
+            },
         }
     }
 }
 
 // ---- scripts
 
-// What was played: the place behind it, calls, events, what the last call did otherwise than tao, and the message result.
 #[derive(Clone, Copy)]
-struct Played {
-    at: usize,
+struct Count {
     calls: u64,
     events: u64,
-    differs: Differs,
+}
+
+impl fmt::Display for Count {
+    fn fmt<W: fmt::Write>(&self, f: &mut fmt::Formatter<W>) -> fmt::Result {
+        write!(f, "{} calls, {} events", self.calls, self.events)
+    }
+}
+
+#[derive(Drop)]
+struct Replay<'a> {
+    bytes: &'a [u8],
+    // what of it is still to be played
+    file: Reader<'a>,
+    tables_at: usize,
+    host: Host<'a>,
+    // the answer area that tao's last events make
+    expected: [u8; AREA_SIZE],
     result: ProcResult,
+    // what the script made so far
+    count: Count,
 }
 
-// Makes the call of a record: 3 an open, 4 a finish, which does not see the message result.
-fn call(
-    what: u8,
-    r: &[u8],
-    session: &mut [u8; AREA_SIZE],
-    answers: &mut [u8; AREA_SIZE],
-    state: &[u8; 256],
-    block: &[u8],
-    table: &[u8],
-    last: ProcResult,
-) -> Called {
-    if what == 3 {
-        return open(r, session, answers, state, block, table, last);
+impl<'a> Replay<'a> {
+    // The name of a script: its length, its bytes.
+    fn name(&mut self) -> &'a [u8] {
+        let length = self.file.u8();
+        let at = self.bytes.len().saturating_sub(self.file.rest.len());
+        let name = part_from(self.bytes, at, usize::from(length));
+        self.file.rest = self.bytes.get(name.next..).unwrap_or_default();
+        name.bytes
     }
-    Called {
-        differs: finish(r, session, answers, state, block, table),
-        result: last,
-    }
-}
 
-// One call. A refused one leaves the answer area as it was, so no area is in the file for it.
-fn play_call(
-    d: &[u8],
-    at: usize,
-    session: &mut [u8; AREA_SIZE],
-    answers: &mut [u8; AREA_SIZE],
-    expected: &mut [u8; AREA_SIZE],
-    state: &[u8; 256],
-    block: &[u8],
-    table: &[u8],
-    last: ProcResult,
-) -> Played {
-    let mut r = [0u8; 48];
-    let mut next = unpack(d, behind(d, at), &mut r);
-    let c = call(
-        byte_at(d, at),
-        &r,
-        session,
-        answers,
-        state,
-        block,
-        table,
-        last,
-    );
-    let result = c.result;
-    let mut differs = c.differs;
-    let mut events: u64 = 0;
-    if r[29] != 0 {
-        next = unpack(d, next, expected);
-        events = u16_at(answers, 0) as u64;
+    // Takes what the calls that follow bring.
+    fn bring(&mut self) {
+        self.host.block = listed(self.bytes, BLOCKS_AT, self.file.u8()).bytes;
+        self.host.table = listed(self.bytes, self.tables_at, self.file.u8()).bytes;
+        let mut state = [0; KEY_STATE_SIZE];
+        unpack(&mut self.file, &mut state);
+        self.host.state = state;
     }
-    if let Differs::Nowhere = differs {
-        differs = areas_differ(&r, session, answers, expected);
-    }
-    Played {
-        at: next,
-        calls: 1,
-        events,
-        differs,
-        result,
-    }
-}
 
-fn unpack_state(d: &[u8], from: usize, state: &mut [u8; 256]) -> usize {
-    unpack(d, from, state)
-}
+    fn open(&mut self, record: &Record<'_>) -> Answer {
+        let mut given = record.given;
+        let lent = match (given.u8(), given.u64()) {
+            // what the open before left
+            (2, _) => self.result,
+            (tag, bits) => result_of(tag, bits),
+        };
+        let opened = self.host.lend_result(record.message, lent);
+        self.result = opened.result;
+        Answer::from(opened.answer)
+    }
 
-// One script, from a fresh session, to the next one or the end.
-fn play(
-    d: &[u8],
-    from: usize,
-    session: &mut [u8; AREA_SIZE],
-    answers: &mut [u8; AREA_SIZE],
-    expected: &mut [u8; AREA_SIZE],
-) -> Played {
-    let tables = tables_at(d);
-    let mut state = [0u8; 256];
-    let mut block = Part { from: 0, to: 0 };
-    let mut table = Part { from: 0, to: 0 };
-    let mut result = ProcResult::DefWindowProc;
-    let mut at = from;
-    let mut calls: u64 = 0;
-    let mut events: u64 = 0;
-    let mut turn: usize = 0;
-    record::write::fresh(session);
-    while turn < d.len() {
-        let what = byte_at(d, at);
-        if what < 2 {
-            return Played {
-                at,
-                calls,
-                events,
-                differs: Differs::Nowhere,
-                result,
-            };
-        }
-        if what == 2 {
-            at = behind(d, at);
-            block = listed(d, BLOCKS_AT, byte_at(d, at));
-            at = behind(d, at);
-            table = listed(d, tables, byte_at(d, at));
-            at = unpack_state(d, behind(d, at), &mut state);
+    fn finish(&mut self, record: &Record<'_>) -> Answer {
+        let mut given = record.given;
+        let token = PendingMessageToken(given.u32());
+        let peeked = match given.u8() {
+            0 => None,
+            _ => Some(record.message),
+        };
+        Answer::from(self.host.finish(token, peeked).map(|()| None))
+    }
+
+    // Makes the call of the record that stands next.
+    fn play_call(&mut self, opens: bool) -> Result<(), Difference> {
+        let mut bytes = [0; RECORD_SIZE];
+        unpack(&mut self.file, &mut bytes);
+        let record = read_record(Reader { rest: &bytes });
+        let answer = if opens {
+            self.open(&record)
         } else {
-            let p = play_call(
-                d,
-                at,
-                session,
-                answers,
-                expected,
-                &state,
-                bytes_of(d, block),
-                bytes_of(d, table),
-                result,
-            );
-            at = p.at;
-            result = p.result;
-            calls = std::num::wrapping_add_u64(calls, p.calls);
-            events = std::num::wrapping_add_u64(events, p.events);
-            let differs = p.differs;
-            match differs {
-                Differs::Nowhere => {}
-                _ => return Played {
-                    at,
-                    calls,
-                    events,
-                    differs,
-                    result,
-                },
+            self.finish(&record)
+        };
+        self.count.calls = self.count.calls.wrapping_add(1);
+        // A refused call leaves the answer area as it was, so no area is in the file for it.
+        if record.answer.what != 0 {
+            unpack(&mut self.file, &mut self.expected);
+            let events = u64::from(self.host.event_count());
+            self.count.events = self.count.events.wrapping_add(events);
+        }
+        if answer != record.answer {
+            return Err(Difference::Answer);
+        }
+        if opens && self.result != record.result {
+            return Err(Difference::Result);
+        }
+        self.compare_areas(&record)
+    }
+
+    fn compare_areas(&self, record: &Record<'_>) -> Result<(), Difference> {
+        let session = &self.host.session;
+        if u16_at(session, 0) != record.tokens
+            || session[HELD_FIELD_AT] != record.held
+            || u16_at(session, COUNT_AT) != record.entries
+        {
+            return Err(Difference::Session);
+        }
+        // `==` compares many bytes at a time; the place is looked for where it is needed
+        if self.host.answers == self.expected {
+            return Ok(());
+        }
+        let mut bytes = self.host.answers.iter().zip(&self.expected);
+        Err(Difference::Events(bytes.position(|(a, b)| a != b).unwrap_or(AREA_SIZE)))
+    }
+
+    // One script from a fresh session, to the next one, the end, or a call that tao answered otherwise.
+    fn play(&mut self) -> Result<(), Difference> {
+        self.host.renew();
+        self.host.state.fill(0);
+        self.host.block = &[];
+        self.host.table = &[];
+        self.result = ProcResult::DefWindowProc;
+        self.count = Count {
+            calls: 0,
+            events: 0,
+        };
+        for _ in 0..self.bytes.len() {
+            let Some((&kind @ 2.., rest)) = self.file.rest.split_first() else {
+                break;
+            };
+            self.file.rest = rest;
+            match kind {
+                2 => self.bring(),
+                3 => self.play_call(true)?,
+                _ => self.play_call(false)?,
             }
         }
-        turn += 1;
-    }
-    Played {
-        at,
-        calls,
-        events,
-        differs: Differs::Nowhere,
-        result,
+        Ok(())
     }
 }
 
-// One script from its name on, with its line.
-fn play_named(
-    rt: &impl Print,
-    d: &[u8],
-    from: usize,
-    session: &mut [u8; AREA_SIZE],
-    answers: &mut [u8; AREA_SIZE],
-    expected: &mut [u8; AREA_SIZE],
-) -> io::Result<Played> {
-    let length = wide(byte_at(d, from));
-    let name = part_from(d, behind(d, from), length);
-    let p = play(d, name.to, session, answers, expected);
-    text(rt, bytes_of(d, name))?;
-    text(rt, b": ")?;
-    show_count(rt, p.calls, p.events)?;
-    text(rt, b"\n")?;
-    let differs = p.differs;
-    show_difference(rt, differs, answers, expected)?;
-    Ok(p)
-}
-
-// How much was played, and whether tao answered all of it so.
-#[derive(Clone, Copy)]
-struct All {
-    scripts: u64,
-    calls: u64,
-    events: u64,
-    same: bool,
-}
-
-fn play_all(rt: &impl Print, d: &[u8]) -> io::Result<All> {
-    let mut session = [0u8; AREA_SIZE];
-    let mut answers = [0u8; AREA_SIZE];
-    let mut expected = [0u8; AREA_SIZE];
-    let mut at = behind_list(d, tables_at(d));
+// Plays all scripts, with a line for each, and a last one for all.
+fn play_all(rt: &impl Print, replay: &mut Replay<'_>) -> io::Result<()> {
+    let mut all = Count {
+        calls: 0,
+        events: 0,
+    };
     let mut scripts: u64 = 0;
-    let mut calls: u64 = 0;
-    let mut events: u64 = 0;
-    let mut turn: usize = 0;
-    while turn < d.len() {
-        if byte_at(d, at) != 1 {
-            return Ok(All {
-                scripts,
-                calls,
-                events,
-                same: true,
-            });
+    let mut played = Ok(());
+    for _ in 0..replay.bytes.len() {
+        let (Ok(()), 1) = (played, replay.file.u8()) else {
+            break;
+        };
+        rt.write_all(replay.name())?;
+        played = replay.play();
+        println!(rt; ": {}", replay.count)?;
+        if let Err(difference) = played {
+            println!(rt; "{difference}")?;
         }
-        let p = play_named(
-            rt,
-            d,
-            behind(d, at),
-            &mut session,
-            &mut answers,
-            &mut expected,
-        )?;
-        at = p.at;
-        scripts = std::num::wrapping_add_u64(scripts, 1);
-        calls = std::num::wrapping_add_u64(calls, p.calls);
-        events = std::num::wrapping_add_u64(events, p.events);
-        let differs = p.differs;
-        match differs {
-            Differs::Nowhere => {}
-            _ => return Ok(All {
-                scripts,
-                calls,
-                events,
-                same: false,
-            }),
-        }
-        turn += 1;
+        scripts = scripts.wrapping_add(1);
+        all.calls = all.calls.wrapping_add(replay.count.calls);
+        all.events = all.events.wrapping_add(replay.count.events);
     }
-    Ok(All {
-        scripts,
-        calls,
-        events,
-        same: true,
-    })
-}
-
-fn replay(rt: &impl Print, d: &[u8]) -> io::Result<()> {
-    let all = play_all(rt, d)?;
-    decimal(rt, all.scripts)?;
-    text(rt, b" scripts, ")?;
-    show_count(rt, all.calls, all.events)?;
-    if all.same {
-        text(rt, b": all as tao answered\n")
-    } else {
-        text(rt, b": the last call not as tao answered\n")
-    }
+    let how = match played {
+        Ok(()) => "all as tao answered",
+        Err(_) => "the last call not as tao answered",
+    };
+    println!(rt; "{scripts} scripts, {all}: {how}")
 }
 
 fn main(rt: HostRuntime) -> io::Result<()> {
-    let file = match fs::open(&rt, "calls") {
-        Ok(file) => file,
-        Err(e) => return eprintln!(rt; "calls: {e}"),
+    let Some(bytes) = read_file(&rt, "calls", 524288)? else {
+        return Ok(());
     };
-    let mut space = Vec::new(rt.alloc());
-    file.take(524288).read_to_end(&mut space)?;
-    replay(&rt, space.as_slice())
+    let tables_at = behind_list(&bytes, BLOCKS_AT);
+    let scripts_at = behind_list(&bytes, tables_at);
+    let mut replay = Replay {
+        bytes: &bytes,
+        file: Reader {
+            rest: bytes.get(scripts_at..).unwrap_or_default(),
+        },
+        tables_at,
+        host: Host::new(&[], &[]),
+        expected: [0; AREA_SIZE],
+        result: ProcResult::DefWindowProc,
+        count: Count {
+            calls: 0,
+            events: 0,
+        },
+    };
+    play_all(&rt, &mut replay)
 }

@@ -21,7 +21,7 @@ const CLASSES: u8 = 14;
 
 // ---- question 11
 
-// The tests of one range are sums of bits: a walk has no way out before its end.
+// The tests of one range are sums of bits: a walk has no way out before its end, so that it compiles to wide instructions.
 fn ends_ok(first: u32, last: u32) -> bool
     ensures { result ≡ ends_ok first last }
 {
@@ -41,12 +41,10 @@ fn all_ends(table: &[u8], n: usize) -> bool
     ensures { result ≡ every (ends_at table.now) n 0 }
 {
     let mut ok = true;
-    let mut i: usize = 0;
-    while i < n {
+    for i in 0..n {
         let first = area::get_u32(table, HEAD + 4 * i);
         let last = area::get_u32(table, HEAD + 4 * n + 4 * i);
-        ok = ok & ends_ok(first, last);
-        i += 1;
+        ok &= ends_ok(first, last);
     }
     ok
 }
@@ -57,12 +55,10 @@ fn all_after(table: &[u8], n: usize) -> bool
     ensures { result ≡ every (after_last table.now) n 0 }
 {
     let mut ok = true;
-    let mut i: usize = 1;
-    while i < n {
+    for i in 1..n {
         let last = area::get_u32(table, HEAD + 4 * n + 4 * i - 4);
         let first = area::get_u32(table, HEAD + 4 * i);
-        ok = ok & (last < first);
-        i += 1;
+        ok &= last < first;
     }
     ok
 }
@@ -72,10 +68,8 @@ fn all_known(table: &[u8], n: usize) -> bool
     ensures { result ≡ every (known_at table.now) n 0 }
 {
     let mut ok = true;
-    let mut i: usize = 0;
-    while i < n {
-        ok = ok & kind_ok(table[HEAD + 8 * n + i]);
-        i += 1;
+    for kind in &table[HEAD + 8 * n..] {
+        ok &= kind_ok(*kind);
     }
     ok
 }
@@ -102,23 +96,17 @@ pub fn table_ok(table: &[u8]) -> bool
 
 // ---- the properties of a scalar value
 
-fn wide(x: u8) -> u32
-    ensures { (result ≡ x) × (result ≤ 255) }
-{
-    x as u32
-}
-
 fn props_by(kind: u8) -> Props
     ensures { result ≡ props_by kind }
 {
-    let k = wide(kind);
+    let k = u32::from(kind);
     Props {
         class: k % 16,
         pictographic: k / 16 == 1,
     }
 }
 
-// By halving: the ranges rise.
+// By halving: the ranges rise. std's searches take a slice of elements, and these stand in columns of bytes.
 pub fn props_at(table: &[u8], scalar: u32) -> Props
     requires { table_ok table.now ≡ true }
     ensures { result ≡ props_in (table_of table.now) scalar }
@@ -130,10 +118,9 @@ pub fn props_at(table: &[u8], scalar: u32) -> Props
         let middle = low + (high - low) / 2;
         if scalar < area::get_u32(table, HEAD + 4 * middle) {
             high = middle;
+        } else if scalar <= area::get_u32(table, HEAD + 4 * n + 4 * middle) {
+            return props_by(table[HEAD + 8 * n + middle]);
         } else {
-            if scalar <= area::get_u32(table, HEAD + 4 * n + 4 * middle) {
-                return props_by(table[HEAD + 8 * n + middle]);
-            }
             low = middle + 1;
         }
     }

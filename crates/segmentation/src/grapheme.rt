@@ -4,7 +4,7 @@ ghost use Rattle.segmentation.specs.Forward.{break_by, start, next_of};
 
 use crate::Props;
 
-// The break classes that the rules name, by their numbers in a table.
+// The break classes that the rules name, by their numbers in a table: as an enum each rule would be a match, and no longer the definition's term.
 pub(crate) const OTHER: u32 = 0;
 
 const CR: u32 = 1;

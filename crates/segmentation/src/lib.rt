@@ -11,7 +11,6 @@ ghost use Rattle.segmentation.specs.Layout.{table_of, table_ok};
 ghost use Rattle.segmentation.specs.Table.{several_in};
 
 use crate::grapheme::Behind;
-use text::Step;
 
 // What a table says of a scalar value: its break class and its pictographic mark.
 #[derive(Clone, Copy)]
@@ -27,21 +26,13 @@ fn breaks_from(table: &[u8], text: &[u8], from: usize, before: Behind) -> bool
 {
     let mut behind = before;
     let mut i = from;
-    while i < text.len() {
-        let step = text::utf8::utf8_step(text, i);
-        match step {
-            Step::Bad => {
-                return false;
-            }
-            Step::Scalar(scalar, n) => {
-                let p = crate::break_table::props_at(table, scalar);
-                if crate::grapheme::breaks(behind, p) {
-                    return true;
-                }
-                behind = crate::grapheme::next(behind, p);
-                i += n;
-            }
+    while let Some((scalar, n)) = text::utf8::utf8_step(text, i) {
+        let p = crate::break_table::props_at(table, scalar);
+        if crate::grapheme::breaks(behind, p) {
+            return true;
         }
+        behind = crate::grapheme::next(behind, p);
+        i += n;
     }
     false
 }
@@ -51,15 +42,12 @@ pub fn several_pieces(table: &[u8], text: &[u8]) -> bool
     requires { table_ok table.now ≡ true }
     ensures { result ≡ several_in (table_of table.now) text.now }
 {
-    let step = text::utf8::utf8_step(text, 0);
-    match step {
-        Step::Bad => false,
-        Step::Scalar(scalar, n) => {
-            if text.len() <= n {
-                return false;
-            }
-            let p = crate::break_table::props_at(table, scalar);
-            breaks_from(table, text, n, crate::grapheme::first(p))
-        }
+    let Some((scalar, n)) = text::utf8::utf8_step(text, 0) else {
+        return false;
+    };
+    if text.len() <= n {
+        return false;
     }
+    let p = crate::break_table::props_at(table, scalar);
+    breaks_from(table, text, n, crate::grapheme::first(p))
 }

@@ -1,9 +1,9 @@
 -- A session and its area lead to each other, and so do the events that a call hands out and theirs.
 -- Assumes nothing.
+use Rattle.std.specs.Prelude.{Option, Some, None}
 use mathlib.Core.Path.{◌≡◌, refl, sym, ap, ◌∙◌}
 use mathlib.Core.Bool.{Bool, true, false, ◌&&◌, and-eq-true_iff}
 use mathlib.Core.List.{List, [], ◌∷◌}
-use mathlib.Core.Option.{Option, some, none}
 use Prim.Native.Nat.{ℕ, zero, suc, ◌^◌, ◌≤◌, ◌<◌, zero-le}
 use native.Mathlib.Omega.{arith}
 use lib.Dec.{eqb, ltb, leb}
@@ -105,9 +105,9 @@ opt_back :
     (o : Option (List ℕ)) → opt_text_fits o ≡ true →
     ((length (bytes_of o) ≤ TEXT_MOST) × (well_formed (bytes_of o) ≡ true)) × (text_from (bytes_of o) ≡ o)
 unfolding opt_text_fits
-opt_back none e = ((zero-le, wellformed_empty), refl)
-opt_back (some []) e = let p = text_parts TEXT_MOST [] e in absurd (omega arith)
-opt_back (some (b ∷ t)) e = let p = text_parts TEXT_MOST (b ∷ t) e in ((p.1, p.2), refl)
+opt_back None e = ((zero-le, wellformed_empty), refl)
+opt_back (Some []) e = let p = text_parts TEXT_MOST [] e in absurd (omega arith)
+opt_back (Some (b ∷ t)) e = let p = text_parts TEXT_MOST (b ∷ t) e in ((p.1, p.2), refl)
 
 opt_exact :
     (t : List ℕ) → (length t ≤ TEXT_MOST) × (well_formed t ≡ true) →
@@ -282,16 +282,16 @@ units-fit [] h = refl
 units-fit (u ∷ us) h = rw (lt-ltb u WORD h.0) (units-fit us h.1)
 
 abbrev pub HeldFits : Held → Type 0
-HeldFits h = (held_fits (some h) ≡ true) × (length h.units ≤ UNITS_MOST)
+HeldFits h = (held_fits (Some h) ≡ true) × (length h.units ≤ UNITS_MOST)
 
-held_parts : (h : Held) → held_fits (some h) ≡ true → (info_fits h.info ≡ true) × (h.vkey < WORD) × All (λ u. u < 256 ^ 2) h.units
+held_parts : (h : Held) → held_fits (Some h) ≡ true → (info_fits h.info ≡ true) × (h.vkey < WORD) × All (λ u. u < 256 ^ 2) h.units
 unfolding held_fits
 held_parts h e =
     let a = (and-eq-true_iff (info_fits h.info) _).0 e in
     let b = (and-eq-true_iff (ltb h.vkey WORD) (units_fit h.units)).0 a.1 in
     (a.0, ltb-true h.vkey WORD b.0, units_below h.units b.1)
 
-held_fits_lem : (h : Held) → info_fits h.info ≡ true → h.vkey < WORD → All (λ u. u < 256 ^ 2) h.units → held_fits (some h) ≡ true
+held_fits_lem : (h : Held) → info_fits h.info ≡ true → h.vkey < WORD → All (λ u. u < 256 ^ 2) h.units → held_fits (Some h) ≡ true
 unfolding held_fits
 held_fits_lem h a b c = rw (a, lt-ltb h.vkey WORD b) (units-fit h.units c)
 
@@ -392,12 +392,12 @@ entry-sound =
 -- ---- the session
 
 abbrev pub OptHeldFits : Option Held → Type 0
-OptHeldFits none = Unit {0}
-OptHeldFits (some h) = HeldFits h
+OptHeldFits None = Unit {0}
+OptHeldFits (Some h) = HeldFits h
 
 opt_held_back : (o : Option Held) → OptHeldFits o → OneOf (λ u. Unit {0}) HeldFits (to_held o) × (from_held (to_held o) ≡ o)
-opt_held_back none f = (tt, refl)
-opt_held_back (some h) f = (f, refl)
+opt_held_back None f = (tt, refl)
+opt_held_back (Some h) f = (f, refl)
 
 opt_held_exact :
     (e : Either (Unit {0}) Held) → OneOf (λ u. Unit {0}) HeldFits e → OptHeldFits (from_held e) × (to_held (from_held e) ≡ e)
@@ -452,13 +452,13 @@ entries_fit_lem (x ∷ es) f = rw f.0.1 (entries_fit_lem es f.1)
 
 pub opt_held_fits : (o : Option Held) → held_fits o ≡ true → units_within o ≡ true → OptHeldFits o
 unfolding units_within
-opt_held_fits none f u = tt
-opt_held_fits (some h) f u = (f, leb-true (length h.units) UNITS_MOST u)
+opt_held_fits None f u = tt
+opt_held_fits (Some h) f u = (f, leb-true (length h.units) UNITS_MOST u)
 
 held_in_range : (o : Option Held) → OptHeldFits o → held_fits o ≡ true
 unfolding held_fits
-held_in_range none f = refl
-held_in_range (some h) f = f.0
+held_in_range None f = refl
+held_in_range (Some h) f = f.0
 
 order_parts :
     (s : Session) → in_order s ≡ true →

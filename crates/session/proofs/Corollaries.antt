@@ -1,9 +1,9 @@
 -- Never late, and no history: specs/Corollaries.antt has the statements.
 -- Assumes nothing.
+use Rattle.std.specs.Prelude.{Option, Some, None}
 use mathlib.Core.Path.{◌≡◌, refl, ap, sym, ◌∙◌, subst}
 use mathlib.Core.Bool.{Bool, true, false}
 use mathlib.Core.List.{List, [], ◌∷◌, ◌++◌, append-nil, map, map-append}
-use mathlib.Core.Option.{Option, some, none}
 use Prim.Native.Nat.{ℕ, suc, ◌≤◌, ◌<◌}
 use native.Mathlib.Omega.{arith}
 use lib.Dec.{ltb}
@@ -54,24 +54,24 @@ reached cs r =
 before-append : (o : Option ℕ) (a b : List Note) → before o (a ++ b) ≡ before o a ++ before o b
 unfolding before
 before-append o [] b = refl
-before-append none (x ∷ a) b = ap (λ (l : List Event). x.event ∷ l) (before-append none a b)
-before-append (some n) (x ∷ a) b = go (ltb x.number n) (before-append (some n) a b)
+before-append None (x ∷ a) b = ap (λ (l : List Event). x.event ∷ l) (before-append None a b)
+before-append (Some n) (x ∷ a) b = go (ltb x.number n) (before-append (Some n) a b)
   where
-    go : (t : Bool) → before (some n) (a ++ b) ≡ before (some n) a ++ before (some n) b → pick t (x.event ∷ []) [] ++ before (some n) (a ++ b) ≡ (pick t (x.event ∷ []) [] ++ before (some n) a) ++ before (some n) b
+    go : (t : Bool) → before (Some n) (a ++ b) ≡ before (Some n) a ++ before (Some n) b → pick t (x.event ∷ []) [] ++ before (Some n) (a ++ b) ≡ (pick t (x.event ∷ []) [] ++ before (Some n) a) ++ before (Some n) b
     go true e = ap (λ (l : List Event). x.event ∷ l) e
     go false e = e
 
-before_all : (D : List Done) → before none (map note_of D) ≡ map event_of D
+before_all : (D : List Done) → before None (map note_of D) ≡ map event_of D
 unfolding before
 before_all [] = refl
 before_all (d ∷ D) = ap (λ (l : List Event). d.event ∷ l) (before_all D)
 
-before_below : (n : ℕ) (D : List Done) → All (λ d. d.number < n) D → before (some n) (map note_of D) ≡ map event_of D
+before_below : (n : ℕ) (D : List Done) → All (λ d. d.number < n) D → before (Some n) (map note_of D) ≡ map event_of D
 unfolding before
 before_below n [] a = refl
 before_below n (d ∷ D) a = rw (lt-ltb d.number n a.0) (ap (λ (l : List Event). d.event ∷ l) (before_below n D a.1))
 
-before_above : (n : ℕ) (D : List Done) → All (λ d. n ≤ d.number) D → before (some n) (map note_of D) ≡ []
+before_above : (n : ℕ) (D : List Done) → All (λ d. n ≤ d.number) D → before (Some n) (map note_of D) ≡ []
 unfolding before
 before_above n [] a = refl
 before_above n (d ∷ D) a = rw (le-ltb d.number n a.0) (before_above n D a.1)
@@ -88,16 +88,16 @@ above n m c [] h a = tt
 above n m c (d ∷ D) h a = (up n m d.number h a.0.0, above n m c D h a.1)
 
 -- the notes of two stretches, of which the second is all above n
-split : (n : ℕ) (A B : List Done) (l : List Event) → before (some n) (map note_of A) ≡ l → All (λ d. n ≤ d.number) B → before (some n) (map note_of (A ++ B)) ≡ l
+split : (n : ℕ) (A B : List Done) (l : List Event) → before (Some n) (map note_of A) ≡ l → All (λ d. n ≤ d.number) B → before (Some n) (map note_of (A ++ B)) ≡ l
 split n A B l e a =
-    ap (before (some n)) (map-append note_of A B) ∙ before-append (some n) (map note_of A) (map note_of B) ∙ ap (λ (r : List Event). before (some n) (map note_of A) ++ r) (before_above n B a) ∙ append-nil (before (some n) (map note_of A)) ∙ e
+    ap (before (Some n)) (map-append note_of A B) ∙ before-append (Some n) (map note_of A) (map note_of B) ∙ ap (λ (r : List Event). before (Some n) (map note_of A) ++ r) (before_above n B a) ∙ append-nil (before (Some n) (map note_of A)) ∙ e
 
 -- a stack with a message: the earliest number, and what the notes below it are
 record First (S : Stack) (t : ℕ) (a : Arrival) (D : List Done) : Type 0 where
   number : ℕ
-  found : earliest (a ∷ opened_of S) ≡ some number
+  found : earliest (a ∷ opened_of S) ≡ Some number
   low : number ≤ a.number
-  told : before (some number) (map note_of (dones S ++ D)) ≡ map event_of (bottom S)
+  told : before (Some number) (map note_of (dones S ++ D)) ≡ map event_of (bottom S)
 
 first : (S : Stack) (c h t : ℕ) (a : Arrival) (D : List Done) → Wf c h (push S t a D) → First S t a D
 unfolding earliest

@@ -1,15 +1,16 @@
 -- Demand 3 (SCOPE 1.3): specs/Demand3.antt has the statement.
 -- Assumes nothing.
+use Rattle.std.specs.Prelude.{Option, Some, None}
 use mathlib.Core.Path.{◌≡◌, refl, ap, sym, ◌∙◌, subst}
 use mathlib.Core.Bool.{true}
 use mathlib.Core.List.{List, [], ◌∷◌, ◌++◌, append_assoc, append-nil, map}
-use mathlib.Core.Option.{Option, some, none}
 use Prim.Native.Nat.{ℕ, ◌+◌}
 use native.Mathlib.Omega.{arith}
 use lib.ListN.{length}
 use borrow.Author.Tests.{eq-eqb}
 use Rattle.session.specs.Limits.{AREA, KEYS}
-use Rattle.session.specs.Given.{Message, Inputs, Given, finished}
+use Rattle.session.specs.Given.{Inputs, Given, finished}
+use Rattle.session.specs.declared.Message.{Message}
 use Rattle.session.specs.Event.{Event}
 use Rattle.session.specs.Builder.{keyboard_of, break_table_of}
 use Rattle.session.specs.Session.{Session, fresh_session}
@@ -33,7 +34,7 @@ use Rattle.session.proofs.Rising.{run-noted, start-noted}
 -- the latest message's token passes question 10
 pub latest_passes :
     (S : Stack) (t h c : ℕ) (a : Arrival) (D : List Done) (p : Option Press) (i : Inputs) (pk : Option Message) →
-    first_no (session_questions (view (push S t a D) h c p).session (finished i t pk)) ≡ none
+    first_no (session_questions (view (push S t a D) h c p).session (finished i t pk)) ≡ None
 unfolding first_no session_questions question10 message_questions finish_questions
 latest_passes S t h c a D p i pk = rw (last-at (flat S) D t (wait_of a), eq-eqb t t refl) refl
 
@@ -41,7 +42,7 @@ latest_passes S t h c a D p i pk = rw (last-at (flat S) D t (wait_of a), eq-eqb 
 pub closing_passes :
     (S : Stack) (t h c : ℕ) (a : Arrival) (D : List Done) (p : Option Press) (k : Closing) →
     Wf c h (push S t a D) → Keeps (view (push S t a D) h c p).session → WellFormed k →
-    first_no (asked (view (push S t a D) h c p) (record { given = finished k.inputs t k.peeked; answers = k.answers })) ≡ none
+    first_no (asked (view (push S t a D) h c p) (record { given = finished k.inputs t k.peeked; answers = k.answers })) ≡ None
 unfolding first_no question1 question2 question3 question11
 closing_passes S t h c a D p k w s f =
     let b = session_back (view (push S t a D) h c p).session (view_session (push S t a D) h c p w s) in
@@ -104,10 +105,10 @@ noted-events [] = refl
 noted-events (d ∷ D) = ap (λ (r : List Event). d.event ∷ r) (noted-events D)
 
 -- nothing open, and a press held or none
-held_fresh : (p : Option Press) → p ≡ none → encode (record { handed = 0; entries = []; held = held_in p }) ≡ fresh_area
+held_fresh : (p : Option Press) → p ≡ None → encode (record { handed = 0; entries = []; held = held_in p }) ≡ fresh_area
 unfolding fresh_session
-held_fresh none e = fresh-area
-held_fresh (some q) e = absurd (let z : ◌≡◌ {A = ℕ} 0 1 = cc in omega arith)
+held_fresh None e = fresh-area
+held_fresh (Some q) e = absurd (let z : ◌≡◌ {A = ℕ} 0 1 = cc in omega arith)
 
 -- a run that ends so, read off its last state
 end_closed :
@@ -125,7 +126,7 @@ end_closed closed end D h c p os w k a e n r =
       a_session = subst (λ (x : State). session_ok x.area ≡ true) (sym e) b.1;
       no_entry = subst (λ (x : State). (decode x.area).entries ≡ []) (sym e) (ap (λ (x : Session). x.entries) b.2);
       no-token = subst (λ (x : State). (decode x.area).handed ≡ 0) (sym e) (ap (λ (x : Session). x.handed) b.2);
-      as_fresh = subst (λ (x : State). x.book.held ≡ none → x.area ≡ fresh_area) (sym e) (held_fresh p);
+      as_fresh = subst (λ (x : State). x.book.held ≡ None → x.area ≡ fresh_area) (sym e) (held_fresh p);
     }
 
 -- the same closings end the same way, whatever came out before

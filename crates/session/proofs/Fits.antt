@@ -1,9 +1,9 @@
 -- What the session's definitions make is in the range of its type, where the inputs passed question 3.
 -- Assumes nothing.
+use Rattle.std.specs.Prelude.{Option, Some, None}
 use mathlib.Core.Path.{◌≡◌, refl}
 use mathlib.Core.Bool.{Bool, true, false, and-eq-true_iff}
 use mathlib.Core.List.{List, [], ◌∷◌, ◌++◌}
-use mathlib.Core.Option.{Option, some, none}
 use Prim.Native.Nat.{ℕ, suc, ◌+◌, ◌≤◌, ◌<◌}
 use native.Mathlib.Omega.{arith}
 use lib.Dec.{eqb, ltb}
@@ -98,7 +98,7 @@ info-fits b vkey l ok h =
 
 pub held_fits_lem :
     (b : Keyboard) (vkey : ℕ) (l : KeyLParam) → KeyboardOk b → vkey < WORD → l.scancode < 256 →
-    held_fits (some (held_of b vkey l)) ≡ true
+    held_fits (Some (held_of b vkey l)) ≡ true
 unfolding held_fits held_of units_fit
 held_fits_lem b vkey l ok v h = rw (info-fits b vkey l ok h, lt-ltb vkey WORD v)
 
@@ -121,7 +121,7 @@ record HeldParts (h : Held) : Type 0 where
   vkey : ltb h.vkey WORD ≡ true
   units : units_fit h.units ≡ true
 
-held_parts : (h : Held) → held_fits (some h) ≡ true → HeldParts h
+held_parts : (h : Held) → held_fits (Some h) ≡ true → HeldParts h
 unfolding held_fits
 held_parts h e =
     let a = (and-eq-true_iff (info_fits h.info) _).0 e in
@@ -141,7 +141,7 @@ units-append (u ∷ us) vs a b =
     let p = (and-eq-true_iff (ltb u WORD) (units_fit us)).0 a in rw p.0 (units-append us vs p.1 b)
 
 pub units-fit :
-    (h : Held) (w : ℕ) → held_fits (some h) ≡ true → held_fits (some (with_units h (char_units w))) ≡ true
+    (h : Held) (w : ℕ) → held_fits (Some h) ≡ true → held_fits (Some (with_units h (char_units w))) ≡ true
 unfolding with_units held_fits
 units-fit h w e =
     let p = held_parts h e in
@@ -160,12 +160,12 @@ typed_key_fits :
     (several : Bool) (layout : FullKey) (scancode : ℕ) (o : Option (List ℕ)) → full_key_fits TEXT_MOST layout ≡ true → scancode < WORD →
     opt_text_fits o ≡ true → full_key_fits TEXT_MOST (typed_key several layout scancode o) ≡ true
 unfolding typed_key opt_text_fits
-typed_key_fits several layout scancode none l s e = unidentified_fits TEXT_MOST scancode s
-typed_key_fits several layout scancode (some t) l s e =
+typed_key_fits several layout scancode None l s e = unidentified_fits TEXT_MOST scancode s
+typed_key_fits several layout scancode (Some t) l s e =
     chosen (λ k. full_key_fits TEXT_MOST k ≡ true) several l (character_fits TEXT_MOST t e)
 
 finalize_fits :
-    (h : Held) (several : Bool) (text all : Option (List ℕ)) → held_fits (some h) ≡ true → opt_text_fits text ≡ true →
+    (h : Held) (several : Bool) (text all : Option (List ℕ)) → held_fits (Some h) ≡ true → opt_text_fits text ≡ true →
     opt_text_fits all ≡ true → event_fits (finalize h several text all) ≡ true
 unfolding finalize
 finalize_fits h several text all e t a =
@@ -175,20 +175,20 @@ finalize_fits h several text all e t a =
     (chosen (λ k. full_key_fits TEXT_MOST k ≡ true) h.mark (typed_key_fits several h.info.logical_key h.info.scancode text l n.scan t) l)
     t a n.plain
 
-no_text : opt_text_fits none ≡ true
+no_text : opt_text_fits None ≡ true
 unfolding opt_text_fits
 no_text = refl
 
-pub press_fits : (h : Held) → held_fits (some h) ≡ true → event_fits (press_event h) ≡ true
+pub press_fits : (h : Held) → held_fits (Some h) ≡ true → event_fits (press_event h) ≡ true
 unfolding press_event
-press_fits h e = finalize_fits h false none none e no_text no_text
+press_fits h e = finalize_fits h false None None e no_text no_text
 
-pub dead_fits : (h : Held) → held_fits (some h) ≡ true → length h.units ≤ UNITS_MOST → event_fits (dead_char_event h) ≡ true
+pub dead_fits : (h : Held) → held_fits (Some h) ≡ true → length h.units ≤ UNITS_MOST → event_fits (dead_char_event h) ≡ true
 unfolding dead_char_event
-dead_fits h e u = finalize_fits h false none (typed_text h.units) e no_text (typed_fits h.units u)
+dead_fits h e u = finalize_fits h false None (typed_text h.units) e no_text (typed_fits h.units u)
 
 pub last-text_fits :
-    (b : Keyboard) (h : Held) → KeyboardOk b → held_fits (some h) ≡ true → length h.units ≤ UNITS_MOST →
+    (b : Keyboard) (h : Held) → KeyboardOk b → held_fits (Some h) ≡ true → length h.units ≤ UNITS_MOST →
     opt_text_fits (last_text b h) ≡ true
 unfolding last_text
 last-text_fits b h ok e u =
@@ -198,7 +198,7 @@ last-text_fits b h ok e u =
     (typed_fits h.units u)
 
 pub char_fits :
-    (b : Keyboard) (r : Table) (h : Held) → KeyboardOk b → held_fits (some h) ≡ true → length h.units ≤ UNITS_MOST →
+    (b : Keyboard) (r : Table) (h : Held) → KeyboardOk b → held_fits (Some h) ≡ true → length h.units ≤ UNITS_MOST →
     event_fits (char_event b r h) ≡ true
 unfolding char_event
 char_fits b r h ok e u = finalize_fits h (several_text r (last_text b h)) (last_text b h) (typed_text h.units) e (last-text_fits b h ok e u) (typed_fits h.units u)

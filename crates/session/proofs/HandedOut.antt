@@ -1,9 +1,9 @@
 -- What a run hands out stands in the answer areas of its answered calls, each that of events in range.
 -- Assumes nothing.
+use Rattle.std.specs.Prelude.{Option, Some, None}
 use mathlib.Core.Path.{◌≡◌, refl, ap, sym, ◌∙◌, subst}
 use mathlib.Core.Bool.{true}
 use mathlib.Core.List.{List, [], ◌∷◌, ◌++◌, append_assoc, append-nil}
-use mathlib.Core.Option.{Option, some, none}
 use Prim.Native.Nat.{ℕ, ◌≤◌}
 use lib.ListN.{length}
 use Rattle.area.specs.Bytes.{Bytes}
@@ -78,8 +78,8 @@ Written st = All Writes st.outcomes
 module _ (q : Paper) (os : List Outcome) (c : Call) (f : Fine q) (r : Bytes (inputs_of c.given).block) (a : All Writes os) where
   joined_by : (o : Option ℕ) → first_no (asked q c) ≡ o → Written (joined (area_of q os) c.given (outcome_by o q.session c.given))
   unfolding joined outcome_by
-  joined_by (some n) e = all_append Writes os (refused n ∷ []) a (tt, tt)
-  joined_by none e =
+  joined_by (Some n) e = all_append Writes os (refused n ∷ []) a (tt, tt)
+  joined_by None e =
       let p = passed _ _ _ _ _ e in
       let l = call_leaves q.session c.given (inputs-ok c.given r p.0) f.keeps p.1 in
       let w : Wrote (encode_answer (effect_of q.session c.given).events) = record { events = (effect_of q.session c.given).events; area = refl; most = l.most; fits = l.fits } in

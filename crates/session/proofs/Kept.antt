@@ -1,9 +1,9 @@
 -- What an answered call leaves keeps the limits, and each value that it stores or hands out is of its type's range.
 -- Assumes nothing.
+use Rattle.std.specs.Prelude.{Option, Some, None}
 use mathlib.Core.Path.{◌≡◌, refl, ap, sym, ◌∙◌}
 use mathlib.Core.Bool.{Bool, true, false}
 use mathlib.Core.List.{List, [], ◌∷◌, ◌++◌}
-use mathlib.Core.Option.{Option, some, none}
 use Prim.Native.Nat.{ℕ, suc, ◌+◌, ◌≤◌, ◌<◌}
 use native.Mathlib.Omega.{arith}
 use lib.Dec.{ltb, eqb}
@@ -14,7 +14,8 @@ use Rattle.lookup.specs.LParam.{key_lparam, virtual_key}
 use Rattle.lookup.specs.declared.keyboard.KeyLParam.{KeyLParam}
 use Rattle.lookup.proofs.keyboard_layout.Ranges.{vkey_small, scan_small}
 use Rattle.session.specs.Limits.{OPEN_MOST, ENTRIES_MOST, TOKENS_MOST, WORD}
-use Rattle.session.specs.Given.{Message, Given, brought, finished, inputs_of}
+use Rattle.session.specs.Given.{Given, brought, finished, inputs_of}
+use Rattle.session.specs.declared.Message.{Message}
 use Rattle.session.specs.Event.{Event, Held}
 use Rattle.segmentation.specs.Table.{Table}
 use Rattle.session.specs.Builder.{Keyboard, keyboard_of, break_table_of, from_message, held_of, with_units, press_event, dead_char_event, char_event, release_event, fake}
@@ -72,8 +73,8 @@ fit_numbered t (e ∷ es) a =
 
 -- an event or none
 abbrev pub OptFits : Option Event → Type 0
-OptFits none = Unit {0}
-OptFits (some e) = event_fits e ≡ true
+OptFits None = Unit {0}
+OptFits (Some e) = event_fits e ≡ true
 
 record Resolved (l r : List Entry) : Type 0 where
   few : open_count r ≤ open_count l
@@ -82,10 +83,10 @@ record Resolved (l r : List Entry) : Type 0 where
 
 placed : (t : ℕ) (o : Option Event) (x : Entry) (r : List Entry) → OptFits o → entries_fit r ≡ true → Resolved (x ∷ r) (in_place t o r)
 unfolding in_place open_count entries_fit entry_fits
-placed t none (waiting u w) r f k = record { few = omega arith; fit = omega arith; stored = k }
-placed t none (complete u d) r f k = record { few = omega arith; fit = omega arith; stored = k }
-placed t (some e) (waiting u w) r f k = record { few = omega arith; fit = omega arith; stored = both (event_fits e) (entries_fit r) f k }
-placed t (some e) (complete u d) r f k = record { few = omega arith; fit = omega arith; stored = both (event_fits e) (entries_fit r) f k }
+placed t None (waiting u w) r f k = record { few = omega arith; fit = omega arith; stored = k }
+placed t None (complete u d) r f k = record { few = omega arith; fit = omega arith; stored = k }
+placed t (Some e) (waiting u w) r f k = record { few = omega arith; fit = omega arith; stored = both (event_fits e) (entries_fit r) f k }
+placed t (Some e) (complete u d) r f k = record { few = omega arith; fit = omega arith; stored = both (event_fits e) (entries_fit r) f k }
 
 passed_by : (x : Entry) (l r : List Entry) → entry_fits x ≡ true → Resolved l r → Resolved (x ∷ l) (x ∷ r)
 unfolding open_count entries_fit
@@ -108,8 +109,8 @@ drain_keeps (complete t e ∷ l) k =
     let r = drain_keeps l u.1 in (omega (arith, r.0), both (event_fits e) (all_fit (drain l)) u.0 r.1)
 
 abbrev pub WaitIn : Option Wait → Type 0
-WaitIn none = Unit {0}
-WaitIn (some w) = wait_fits w ≡ true
+WaitIn None = Unit {0}
+WaitIn (Some w) = wait_fits w ≡ true
 
 wait-fits : (x : Entry) → entry_fits x ≡ true → WaitIn (wait_in x)
 unfolding entry_fits
@@ -184,7 +185,7 @@ record Passes (s : Session) (b : Keyboard) (m : Message) (k : Sort) : Type 0 whe
   q8 : question8 s b k ≡ true
   q9 : question9 s m k ≡ true
 
-passes : (a b c d e : Bool) → first_no ((5, a) ∷ (6, b) ∷ (7, c) ∷ (8, d) ∷ (9, e) ∷ []) ≡ none → (b ≡ true) × (c ≡ true) × (d ≡ true) × (e ≡ true)
+passes : (a b c d e : Bool) → first_no ((5, a) ∷ (6, b) ∷ (7, c) ∷ (8, d) ∷ (9, e) ∷ []) ≡ None → (b ≡ true) × (c ≡ true) × (d ≡ true) × (e ≡ true)
 unfolding first_no
 passes true true true true true q = (refl, refl, refl, refl)
 passes false b c d e q = (cc, cc, cc, cc)
@@ -198,9 +199,9 @@ char_leaves :
     let s : Session = record { handed = t; entries = l; held = p } in
     Keeps s → Passes s b m char → Leaves (char_opened s m p)
 unfolding char_opened question6 question7 question8 question9 opens new_entries units_after wait_fits units_within
-char_leaves t l none b m k q = nothing_leaves _ k
-char_leaves t l (some h) b m k q =
-    opening_leaves _ character (some (with_units h (char_units m.wparam))) k (ltb-true _ _ q.q6) (leb-true _ _ q.q7) (leb-true _ _ q.q8) refl q.q9 (units-fit h m.wparam k.press_in)
+char_leaves t l None b m k q = nothing_leaves _ k
+char_leaves t l (Some h) b m k q =
+    opening_leaves _ character (Some (with_units h (char_units m.wparam))) k (ltb-true _ _ q.q6) (leb-true _ _ q.q7) (leb-true _ _ q.q8) refl q.q9 (units-fit h m.wparam k.press_in)
 
 behind_room : (l : List Entry) (n most : ℕ) (t : ℕ) → t + n ≤ most → t + behind_some l n ≤ most
 behind_room [] n most t e = omega arith
@@ -211,9 +212,9 @@ dead_leaves :
     let s : Session = record { handed = t; entries = l; held = p } in
     Keeps s → Passes s b m dead_char → Leaves (dead_char_answered s p)
 unfolding dead_char_answered question7 question8 new_entries units_within held_fits all_fit
-dead_leaves t l none b m k q = nothing_leaves _ k
-dead_leaves t l (some h) b m k q =
-    behind_leaves _ (dead_char_event h ∷ []) none l refl k (behind_room l 1 ENTRIES_MOST (length l) (leb-true _ _ q.q7)) (behind_room l 1 TOKENS_MOST t (leb-true _ _ q.q8)) (omega arith)
+dead_leaves t l None b m k q = nothing_leaves _ k
+dead_leaves t l (Some h) b m k q =
+    behind_leaves _ (dead_char_event h ∷ []) None l refl k (behind_room l 1 ENTRIES_MOST (length l) (leb-true _ _ q.q7)) (behind_room l 1 TOKENS_MOST t (leb-true _ _ q.q8)) (omega arith)
     (both (event_fits (dead_char_event h)) true (dead_fits h k.press_in (leb-true _ _ k.short)) refl) refl refl
 
 message_leaves : (k : Sort) (s : Session) (b : Keyboard) (m : Message) → KeyboardOk b → Keeps s → Passes s b m k → Leaves (message_effect s b m k)
@@ -237,20 +238,20 @@ unfolding finish_event wait_fits units_within
 event-fits b r p (press vkey l) pk o u f g =
     let k = and_true (ltb vkey WORD) (ltb l.scancode 256) g in
     let made = held_fits_lem b vkey l o (ltb-true _ _ k.0) (ltb-true _ _ k.1) in
-    pick-ok OptFits (holds pk) none _ tt
-    (pick-ok OptFits (fake b (from_message b vkey l) pk) none (some (press_event (held_of b vkey l))) tt (press_fits (held_of b vkey l) made))
-event-fits b r p (release n) pk o u f g = pick-ok OptFits (fake b n pk) none (some (release_event n)) tt (release_fits n g)
-event-fits b r none character pk o u f g = tt
-event-fits b r (some h) character pk o u f g = pick-ok OptFits (more_coming pk) none (some (char_event b r h)) tt (char_fits b r h o f (leb-true _ _ u))
+    pick-ok OptFits (holds pk) None _ tt
+    (pick-ok OptFits (fake b (from_message b vkey l) pk) None (Some (press_event (held_of b vkey l))) tt (press_fits (held_of b vkey l) made))
+event-fits b r p (release n) pk o u f g = pick-ok OptFits (fake b n pk) None (Some (release_event n)) tt (release_fits n g)
+event-fits b r None character pk o u f g = tt
+event-fits b r (Some h) character pk o u f g = pick-ok OptFits (more_coming pk) None (Some (char_event b r h)) tt (char_fits b r h o f (leb-true _ _ u))
 
-nothing_held : (units_within none ≡ true) × (held_fits none ≡ true)
+nothing_held : (units_within None ≡ true) × (held_fits None ≡ true)
 unfolding units_within held_fits
 nothing_held = (refl, refl)
 
 abbrev HeldKept : Option Held → Type 0
 HeldKept p = (units_within p ≡ true) × (held_fits p ≡ true)
 
-new_held : (b : Keyboard) (vkey : ℕ) (l : KeyLParam) → units_within (some (held_of b vkey l)) ≡ true
+new_held : (b : Keyboard) (vkey : ℕ) (l : KeyLParam) → units_within (Some (held_of b vkey l)) ≡ true
 unfolding units_within held_of
 new_held b vkey l = refl
 
@@ -258,10 +259,10 @@ held_kept : (b : Keyboard) (p : Option Held) (w : Wait) (pk : Option Message) �
 unfolding finish_held wait_fits
 held_kept b p (press vkey l) pk o u g =
     let r = and_true (ltb vkey WORD) (ltb l.scancode 256) g in
-    pick-ok HeldKept (holds pk) (some (held_of b vkey l)) none (new_held b vkey l, held_fits_lem b vkey l o (ltb-true _ _ r.0) (ltb-true _ _ r.1)) nothing_held
+    pick-ok HeldKept (holds pk) (Some (held_of b vkey l)) None (new_held b vkey l, held_fits_lem b vkey l o (ltb-true _ _ r.0) (ltb-true _ _ r.1)) nothing_held
 held_kept b p (release n) pk o u g = u
-held_kept b none character pk o u g = nothing_held
-held_kept b (some h) character pk o u g = pick-ok HeldKept (more_coming pk) (some h) none u nothing_held
+held_kept b None character pk o u g = nothing_held
+held_kept b (Some h) character pk o u g = pick-ok HeldKept (more_coming pk) (Some h) None u nothing_held
 
 resolved_leaves : (b : Bool) (s : Session) (t : ℕ) (e : Option Event) (h : Option Held) → Keeps s → OptFits e → HeldKept h → Leaves (resolved b s t e h)
 unfolding resolved open_count all_fit
@@ -279,14 +280,14 @@ resolved_leaves false s t e h k f u =
 
 found_leaves : (s : Session) (b : Keyboard) (r : Table) (t : ℕ) (pk : Option Message) (o : Option Wait) → KeyboardOk b → Keeps s → WaitIn o → Leaves (finish_effect s b r t pk o)
 unfolding finish_effect
-found_leaves s b r t pk none k q f = nothing_leaves s q
-found_leaves s b r t pk (some w) k q f =
+found_leaves s b r t pk None k q f = nothing_leaves s q
+found_leaves s b r t pk (Some w) k q f =
     resolved_leaves (is_first t s.entries) s t (finish_event b r s.held w pk) (finish_held b s.held w pk) q
     (event-fits b r s.held w pk k q.short q.press_in f) (held_kept b s.held w pk k (q.short, q.press_in) f)
 
 -- ---- any call that passed its questions
 
-pub call_leaves : (s : Session) (g : Given) → KeyboardOk (keyboard_of (inputs_of g)) → Keeps s → first_no (session_questions s g) ≡ none → Leaves (effect_of s g)
+pub call_leaves : (s : Session) (g : Given) → KeyboardOk (keyboard_of (inputs_of g)) → Keeps s → first_no (session_questions s g) ≡ None → Leaves (effect_of s g)
 unfolding effect_of session_questions message_questions finish_questions
 call_leaves s (brought i m) o k e =
     let q = passes (question5 s (sort_of m)) (question6 s (sort_of m)) (question7 s (keyboard_of i) (sort_of m)) (question8 s (keyboard_of i) (sort_of m)) (question9 s m (sort_of m)) e in

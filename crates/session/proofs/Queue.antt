@@ -1,16 +1,17 @@
 -- Everything that ever arrived, as a stack cut at the open messages: the whole state of a run is a function of it.
 -- Assumes nothing.
+use Rattle.std.specs.Prelude.{Option, Some, None}
 use mathlib.Core.Path.{◌≡◌, refl, ap, sym, ◌∙◌}
 use mathlib.Core.Bool.{true, false}
 use mathlib.Core.List.{List, [], ◌∷◌, ◌++◌, append_assoc, append-nil, map}
-use mathlib.Core.Option.{Option, some, none}
 use Prim.Native.Nat.{ℕ, suc, ◌+◌, ◌≤◌, ◌<◌}
 use native.Mathlib.Omega.{arith}
 use lib.ListN.{length}
 use borrow.Author.Tests.{lt-ltb, le-leb, lt-leb, eq-eqb, ne_eqb}
 use Rattle.area.specs.Pick.{pick}
 use Rattle.lookup.specs.LParam.{key_lparam, virtual_key}
-use Rattle.session.specs.Given.{Message, Inputs}
+use Rattle.session.specs.Given.{Inputs}
+use Rattle.session.specs.declared.Message.{Message}
 use Rattle.session.specs.Event.{Event, Held}
 use Rattle.session.specs.Session.{Wait, press, release, character, Entry, waiting, complete, Session, token_of, rising, first_open}
 use Rattle.session.specs.Calls.{numbered, behind, find_wait, in_place, resolve, is_first, drain}
@@ -152,7 +153,7 @@ first_true (push S t a D) h = first-at S h t (wait_of a) (map entry_of D)
 
 -- ---- the queue
 
-pub find_at : (A B : List Entry) (t : ℕ) (w : Wait) → All (λ x. token_of x < t) A → find_wait t (A ++ (waiting t w ∷ B)) ≡ some w
+pub find_at : (A B : List Entry) (t : ℕ) (w : Wait) → All (λ x. token_of x < t) A → find_wait t (A ++ (waiting t w ∷ B)) ≡ Some w
 unfolding find_wait
 find_at [] B t w a = rw (eq-eqb t t refl)
 find_at (x ∷ A) B t w a = rw (ne_eqb t (token_of x) (λ e. omega arith)) (find_at A B t w a.1)
@@ -173,17 +174,17 @@ is-first t w B = eq-eqb t t refl
 
 pub behind_at :
     (s : Session) (es : List Event) (h : Option Held) (A B : List Entry) (x : Entry) →
-    behind s es h (A ++ (x ∷ B)) ≡ record { token = none; events = []; after = record { handed = s.handed + length es; entries = (A ++ (x ∷ B)) ++ numbered s.handed es; held = h } }
+    behind s es h (A ++ (x ∷ B)) ≡ record { token = None; events = []; after = record { handed = s.handed + length es; entries = (A ++ (x ∷ B)) ++ numbered s.handed es; held = h } }
 unfolding behind
 behind_at s es h [] B x = refl
 behind_at s es h (y ∷ A) B x = refl
 
-last_none : (D : List Done) → last_token (map entry_of D) ≡ none
+last_none : (D : List Done) → last_token (map entry_of D) ≡ None
 unfolding last_token
 last_none [] = refl
 last_none (d ∷ D) = last_none D
 
-pub last-at : (A : List Entry) (D : List Done) (t : ℕ) (w : Wait) → last_token (A ++ (waiting t w ∷ map entry_of D)) ≡ some t
+pub last-at : (A : List Entry) (D : List Done) (t : ℕ) (w : Wait) → last_token (A ++ (waiting t w ∷ map entry_of D)) ≡ Some t
 unfolding last_token
 last-at [] D t w = rw (last_none D)
 last-at (waiting t' w' ∷ A) D t w = rw (last-at A D t w)
@@ -240,23 +241,23 @@ events_tagged (e ∷ es) t n = ap (λ r. e ∷ r) (events_tagged es (suc t) n)
 -- ---- a finish: the event, if there is one, stands before what came behind the message
 
 unfoldable pub kept : ℕ → ℕ → Option Event → List Done → List Done
-kept t n none D = D
-kept t n (some e) D = record { token = t; number = n; event = e } ∷ D
+kept t n None D = D
+kept t n (Some e) D = record { token = t; number = n; event = e } ∷ D
 
 pub entries_kept : (t n : ℕ) (o : Option Event) (D : List Done) → in_place t o (map entry_of D) ≡ map entry_of (kept t n o D)
 unfolding kept in_place
-entries_kept t n none D = refl
-entries_kept t n (some e) D = refl
+entries_kept t n None D = refl
+entries_kept t n (Some e) D = refl
 
 -- what the book does with an event that may be none
 unfoldable pub note_opt : ℕ → Option Event → List Note → List Note
-note_opt n none l = l
-note_opt n (some e) l = note_in n e l
+note_opt n None l = l
+note_opt n (Some e) l = note_in n e l
 
 pub note_kept : (A B : List Done) (t n : ℕ) (o : Option Event) → All (λ x. x.number ≤ n) A → All (λ x. n < x.number) B → note_opt n o (map note_of (A ++ B)) ≡ map note_of (A ++ kept t n o B)
 unfolding note_opt kept
-note_kept A B t n none a b = refl
-note_kept A B t n (some e) a b = note_at A B (record { token = t; number = n; event = e }) a b
+note_kept A B t n None a b = refl
+note_kept A B t n (Some e) a b = note_at A B (record { token = t; number = n; event = e }) a b
 
 pub dones_app : (S : Stack) (L : List Done) → dones (app S L) ≡ dones S ++ L
 dones_app (base D) L = refl
@@ -285,14 +286,14 @@ app_wf (push S t' a D) c h n t L w p q r l = (
 
 kept_rises : (h n t : ℕ) (o : Option Event) (D : List Done) → t < h → Rises (suc t) h D → Rises t h (kept t n o D)
 unfolding kept
-kept_rises h n t none [] q r = omega arith
-kept_rises h n t none (d ∷ D) q r = (omega arith, r.1)
-kept_rises h n t (some e) D q r = (omega arith, r)
+kept_rises h n t None [] q r = omega arith
+kept_rises h n t None (d ∷ D) q r = (omega arith, r.1)
+kept_rises h n t (Some e) D q r = (omega arith, r)
 
 kept_in : (c n t : ℕ) (o : Option Event) (D : List Done) → n < c → All (λ d. (n < d.number) × (d.number < c)) D → All (λ d. (n ≤ d.number) × (d.number < c)) (kept t n o D)
 unfolding kept
-kept_in c n t none D p l = all_map (λ d x. omega arith) D l
-kept_in c n t (some e) D p l = (omega arith, all_map (λ d x. omega arith) D l)
+kept_in c n t None D p l = all_map (λ d x. omega arith) D l
+kept_in c n t (Some e) D p l = (omega arith, all_map (λ d x. omega arith) D l)
 
 pub finish_wf : (S : Stack) (t h c : ℕ) (a : Arrival) (D : List Done) (o : Option Event) → Wf c h (push S t a D) → Wf c h (app S (kept t a.number o D))
 finish_wf S t h c a D o w =

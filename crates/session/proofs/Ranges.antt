@@ -1,9 +1,9 @@
 -- Texts and keys that come from typed units and a layout are in the ranges of their types.
 -- Assumes nothing.
+use Rattle.std.specs.Prelude.{Option, Some, None}
 use mathlib.Core.Path.{◌≡◌, refl}
 use mathlib.Core.Bool.{Bool, true, false, ◌&&◌, and-eq-true_iff}
 use mathlib.Core.List.{List, [], ◌∷◌}
-use mathlib.Core.Option.{Option, some, none}
 use Prim.Native.Nat.{ℕ, ◌^◌, ◌≤◌, ◌<◌}
 use native.Mathlib.Omega.{arith}
 use lib.Dec.{eqb, ltb, leb}
@@ -62,8 +62,8 @@ typed_fits [] h = refl
 typed_fits (u ∷ us) h = go (text_of (u ∷ us)) refl
   where
     go : (o : Option (List ℕ)) → text_of (u ∷ us) ≡ o → opt_text_fits o ≡ true
-    go none e = refl
-    go (some t) e =
+    go None e = refl
+    go (Some t) e =
         let l = (text-length (u ∷ us) t e).0 in
         text_in_lem TEXT_MOST t (omega arith) (text_48 (u ∷ us) t e h) (text_wellformed (u ∷ us) t e)
 
@@ -130,7 +130,7 @@ undead_fits (dead_char c) e = character_fits KEY_TEXT_MOST (utf8_of c) (utf8_fit
 
 named-text : (n : ℕ) → opt_text_fits (to_text (named n)) ≡ true
 unfolding to_text all_pass opt_text_fits text_fits well_formed read_from utf8_step by_lead lead_in table3_7
-named-text n = found_passes opt_text_fits _ none n refl refl
+named-text n = found_passes opt_text_fits _ None n refl refl
 
 -- the text that a key gives
 pub to_text_fits : (k : FullKey) → KeyFits k → opt_text_fits (to_text k) ≡ true

@@ -1,13 +1,14 @@
 -- What a refusal leaves: specs/Refusals.antt has the statements.
 -- Assumes nothing.
+use Rattle.std.specs.Prelude.{Option, Some, None}
 use mathlib.Core.Path.{◌≡◌, refl, ap, sym, ◌∙◌, subst}
 use mathlib.Core.Bool.{Bool, true, false}
 use mathlib.Core.List.{List, [], ◌∷◌, ◌++◌}
-use mathlib.Core.Option.{Option, some, none}
 use Prim.Native.Nat.{ℕ, suc}
 use native.Mathlib.Omega.{arith}
 use lib.ListN.{length}
-use Rattle.session.specs.Given.{Message, Inputs, Given, finished}
+use Rattle.session.specs.Given.{Inputs, Given, finished}
+use Rattle.session.specs.declared.Message.{Message}
 use Rattle.session.specs.Session.{Session}
 use Rattle.session.specs.Area.{encode}
 use Rattle.session.specs.Questions.{first_no, session_questions}
@@ -60,7 +61,7 @@ none_open : (t : ℕ) (ts : List ℕ) → [] ≡ t ∷ ts → ⊥
 none_open t ts e = let z : 0 ≡ suc (length ts) = ap length e in omega arith
 
 -- where 4 and all behind it are passed, the first no is among those that are put to inputs
-of-inputs : (a b c d : Bool) (n : ℕ) (qs : List (ℕ × Bool)) → first_no qs ≡ none → first_no (early a b c d qs) ≡ some n → of_inputs n ≡ true
+of-inputs : (a b c d : Bool) (n : ℕ) (qs : List (ℕ × Bool)) → first_no qs ≡ None → first_no (early a b c d qs) ≡ Some n → of_inputs n ≡ true
 unfolding first_no of_inputs
 of-inputs false b c d n qs k e = let h : 1 ≡ n = cc in rw (sym h) refl
 of-inputs true false c d n qs k e = let h : 2 ≡ n = cc in rw (sym h) refl
@@ -68,10 +69,10 @@ of-inputs true true false d n qs k e = let h : 3 ≡ n = cc in rw (sym h) refl
 of-inputs true true true false n qs k e = let h : 11 ≡ n = cc in rw (sym h) refl
 of-inputs true true true true n qs k e = absurd (let z : ◌≡◌ {A = ℕ} 0 1 = cc in omega arith)
 
-number_of : (o : Option ℕ) (s : Session) (g : Given) (n : ℕ) → outcome_by o s g ≡ refused n → o ≡ some n
+number_of : (o : Option ℕ) (s : Session) (g : Given) (n : ℕ) → outcome_by o s g ≡ refused n → o ≡ Some n
 unfolding outcome_by
-number_of none s g n e = absurd (let z : ◌≡◌ {A = ℕ} 0 1 = cc in omega arith)
-number_of (some m) s g n e = let h : m ≡ n = cc in ap (λ (x : ℕ). some x) h
+number_of None s g n e = absurd (let z : ◌≡◌ {A = ℕ} 0 1 = cc in omega arith)
+number_of (Some m) s g n e = let h : m ≡ n = cc in ap (λ (x : ℕ). Some x) h
 
 for_inputs :
     (S : Stack) (h c : ℕ) (q : Option Press) (t : ℕ) (ts : List ℕ) (i : Inputs) (p : Option Message) (y : List ℕ) (n : ℕ) → Wf c h S → Keeps (view S h c q).session →
@@ -79,10 +80,10 @@ for_inputs :
 for_inputs (base D) h c q t ts i p y n w k e f = absurd (none_open t ts e)
 for_inputs (push S u a D) h c q t ts i p y n w k e f =
     let same : u ≡ t = ap head e in
-    let passes = subst (λ (x : ℕ). first_no (session_questions (view (push S u a D) h c q).session (finished i x p)) ≡ none) same (latest_passes S u h c a D q i p) in
+    let passes = subst (λ (x : ℕ). first_no (session_questions (view (push S u a D) h c q).session (finished i x p)) ≡ None) same (latest_passes S u h c a D q i p) in
     of-inputs _ _ _ _ n _ passes (number_of _ _ _ n (sym (outcome-by (push S u a D) h c q y (finished i t p) w k) ∙ f))
 
-given_none : (s : Session) (g : Given) → Answered (outcome_by none s g ∷ [])
+given_none : (s : Session) (g : Given) → Answered (outcome_by None s g ∷ [])
 unfolding outcome_by
 given_none s g = tt
 

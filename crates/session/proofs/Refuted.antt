@@ -2,10 +2,10 @@
 -- an event handed out late, twice, or before the one that arrived first. Whatever a finish is defined as, demand 3 makes that of a lone press
 -- hand out its event, once (`finish_forced`), and that of a nested press hand out nothing before the outer one's (`inner_forced`).
 -- Assumes nothing.
+use Rattle.std.specs.Prelude.{Option, Some, None}
 use mathlib.Core.Path.{◌≡◌, refl, ap, sym, ◌∙◌, subst}
 use mathlib.Core.Bool.{true, false}
 use mathlib.Core.List.{List, [], ◌∷◌, ◌++◌, map}
-use mathlib.Core.Option.{Option, some, none}
 use Prim.Native.Nat.{ℕ}
 use native.Mathlib.Omega.{arith}
 use lib.ListN.{length}
@@ -15,7 +15,8 @@ use Rattle.area.specs.Look.{assoc}
 use Rattle.lookup.specs.LParam.{key_lparam, virtual_key}
 use Rattle.lookup.proofs.keyboard_layout.Ranges.{vkey_small, scan_small, repeat_of}
 use Rattle.session.specs.Limits.{AREA, KEYS}
-use Rattle.session.specs.Given.{Message, Inputs, Given, brought, finished, WM_KEYDOWN}
+use Rattle.session.specs.Given.{Inputs, Given, brought, finished, WM_KEYDOWN}
+use Rattle.session.specs.declared.Message.{Message}
 use Rattle.session.specs.Event.{Event}
 use Rattle.session.specs.Builder.{keyboard_of, break_table_of, from_message, held_of, finalize, fake, press_event}
 use Rattle.session.specs.Session.{Wait, Session, fresh_session, open_count, event_fits, all_fit}
@@ -38,8 +39,8 @@ use Rattle.session.proofs.Demand3.{closing_passes}
 
 module _ (E : Session → Given → Effect) where
   abbrev pub outcome_with : Option ℕ → Session → Given → Outcome
-  outcome_with (some n) s g = refused n
-  outcome_with none s g = answered (E s g).token (encode (E s g).after) (encode_answer (E s g).events)
+  outcome_with (Some n) s g = refused n
+  outcome_with None s g = answered (E s g).token (encode (E s g).after) (encode_answer (E s g).events)
 
   abbrev pub next_with : State → Call → State
   next_with st c =
@@ -52,8 +53,8 @@ module _ (E : Session → Given → Effect) where
 -- with the calls' own it is the run of demand 3
 outcome_own : (o : Option ℕ) (s : Session) (g : Given) → outcome_with effect_of o s g ≡ outcome_by o s g
 unfolding outcome_by
-outcome_own none s g = refl
-outcome_own (some n) s g = refl
+outcome_own None s g = refl
+outcome_own (Some n) s g = refl
 
 pub run_own : (cs : List Call) (st : State) → run_with effect_of st cs ≡ run st cs
 unfolding run next outcome_of
@@ -84,23 +85,23 @@ module _ (i : Inputs) (y : List ℕ) (wparam lparam : ℕ) where
   opened = record { given = brought i key_press; answers = y }
 
   abbrev pub closing : Closing
-  closing = record { inputs = i; peeked = none; answers = y }
+  closing = record { inputs = i; peeked = None; answers = y }
 
   abbrev arrived : Arrival
   arrived = record { number = 0; inputs = i; message = key_press }
 
   -- the state between the two, and its session
   abbrev between : Paper
-  between = view (push (base []) 0 arrived []) 1 1 none
+  between = view (push (base []) 0 arrived []) 1 1 None
 
   abbrev pub press_open : Session
   press_open = between.session
 
-  press-answered : first_no (session_questions fresh_session (brought i key_press)) ≡ none
+  press-answered : first_no (session_questions fresh_session (brought i key_press)) ≡ None
   unfolding first_no session_questions message_questions question5 question6 question7 question8 question9 opens new_entries units_after open_count fresh_session sort_of assoc
   press-answered = refl
 
-  press_passes : WellFormed closing → first_no (asked fresh opened) ≡ none
+  press_passes : WellFormed closing → first_no (asked fresh opened) ≡ None
   unfolding first_no question1 question2 question3 question11
   press_passes f =
       let b = session_back fresh_session (fine_session fresh start_fine) in
@@ -127,12 +128,12 @@ module _ (i : Inputs) (y : List ℕ) (wparam lparam : ℕ) where
         fine = subst Fine press_done n.1;
       }
 
-  press-noted : (book_step false between.book (finished i 0 none)).noted ≡ record { number = 0; event = press_event (press_of i key_press) } ∷ []
+  press-noted : (book_step false between.book (finished i 0 None)).noted ≡ record { number = 0; event = press_event (press_of i key_press) } ∷ []
   unfolding book_step book_finish unless_quit finish_press makes_held note_unless note_in fake
   press-noted = refl
 
   -- what the calls' own finish hands out
-  press-handed-out : (effect_of press_open (finished i 0 none)).events ≡ press_event (press_of i key_press) ∷ []
+  press-handed-out : (effect_of press_open (finished i 0 None)).events ≡ press_event (press_of i key_press) ∷ []
   unfolding effect_of finish_effect seen find_wait is_first resolved resolve in_place drain finish_event holds fake wait_of
   press-handed-out = refl
 
@@ -144,8 +145,8 @@ module _ (i : Inputs) (y : List ℕ) (wparam lparam : ℕ) where
 
     open_same : (o : Option ℕ) (s : Session) → outcome_with E o s (brought i key_press) ≡ outcome_by o s (brought i key_press)
     unfolding outcome_by
-    open_same none s = ap (λ (e : Effect). answered e.token (encode e.after) (encode_answer e.events)) (same-opens s key_press)
-    open_same (some n) s = refl
+    open_same None s = ap (λ (e : Effect). answered e.token (encode e.after) (encode_answer e.events)) (same-opens s key_press)
+    open_same (Some n) s = refl
 
     after-press : (r : Reached) → after_press ≡ area_of between r.outcomes
     unfolding next outcome_of
@@ -153,28 +154,28 @@ module _ (i : Inputs) (y : List ℕ) (wparam lparam : ℕ) where
         ap (λ (o : Outcome). joined start (brought i key_press) o) (open_same (first_no (questions start.area y (brought i key_press))) (decode start.area)) ∙ r.same
 
     told :
-        (os : List Outcome) (closed : State) → Fine between → Closed closed (next_with E (area_of between os) (record { given = finished i 0 none; answers = y })) →
-        decode_answer (encode_answer (E press_open (finished i 0 none)).events) ≡ press_event (press_of i key_press) ∷ []
+        (os : List Outcome) (closed : State) → Fine between → Closed closed (next_with E (area_of between os) (record { given = finished i 0 None; answers = y })) →
+        decode_answer (encode_answer (E press_open (finished i 0 None)).events) ≡ press_event (press_of i key_press) ∷ []
     unfolding joined
     told os closed fine k =
-        let g : Given = finished i 0 none in
+        let g : Given = finished i 0 None in
         let c : Call = record { given = g; answers = y } in
-        let p = closing_passes (base []) 0 1 1 arrived [] none closing (open_wf (base []) 0 0 i key_press tt) fine.keeps f in
-        let e : next_with E (area_of between os) c ≡ joined (area_of between os) g (outcome_with E none press_open g)
+        let p = closing_passes (base []) 0 1 1 arrived [] None closing (open_wf (base []) 0 0 i key_press tt) fine.keeps f in
+        let e : next_with E (area_of between os) c ≡ joined (area_of between os) g (outcome_with E None press_open g)
         = next-with E between os c fine ∙ ap (λ (o : Option ℕ). joined (area_of between os) g (outcome_with E o press_open g)) p in
         subst (λ (st : State). st.out ≡ map (λ (x : Note). x.event) st.book.noted) e k.handed_out ∙ ap (map (λ (x : Note). x.event)) press-noted
 
     -- demand 3's end of this run leaves the finish no choice
     pub finish_forced :
         (closed : State) → Closed closed (run_with E after_press (closings after_press.tokens (closing ∷ []))) →
-        decode_answer (encode_answer (E press_open (finished i 0 none)).events) ≡ press_event (press_of i key_press) ∷ []
+        decode_answer (encode_answer (E press_open (finished i 0 None)).events) ≡ press_event (press_of i key_press) ∷ []
     unfolding closings
     finish_forced closed k =
         let r = reached f bytes in
         told r.outcomes closed r.fine (subst (λ (st : State). Closed closed (run_with E st (closings st.tokens (closing ∷ [])))) (after-press r) k)
 
     pub nothing_refuted :
-        (E press_open (finished i 0 none)).events ≡ [] →
+        (E press_open (finished i 0 None)).events ≡ [] →
         (closed : State) → Closed closed (run_with E after_press (closings after_press.tokens (closing ∷ []))) → ⊥
     unfolding all_fit
     nothing_refuted n closed k =
@@ -193,15 +194,15 @@ NotClosed E =
 -- a queue kept clean by completing no message
 abbrev pub clean : Session → Given → Effect
 clean s (brought i m) = effect_of s (brought i m)
-clean s (finished i t p) = record { token = none; events = []; after = (effect_of s (finished i t p)).after }
+clean s (finished i t p) = record { token = None; events = []; after = (effect_of s (finished i t p)).after }
 
 pub clean_refuted : NotClosed clean
 clean_refuted i y wparam lparam f bytes closed k = nothing_refuted i y wparam lparam clean (λ s m. refl) f bytes refl closed k
 
 -- late: the first entry's event waits in the queue as any other's
 abbrev pub waiting_on : Session → Inputs → ℕ → Option Message → Option Wait → Effect
-waiting_on s i t p none = nothing_done s
-waiting_on s i t p (some w) = resolved false s t (finish_event (keyboard_of i) (break_table_of i) s.held w p) (finish_held (keyboard_of i) s.held w p)
+waiting_on s i t p None = nothing_done s
+waiting_on s i t p (Some w) = resolved false s t (finish_event (keyboard_of i) (break_table_of i) s.held w p) (finish_held (keyboard_of i) s.held w p)
 
 abbrev pub late : Session → Given → Effect
 late s (brought i m) = effect_of s (brought i m)
@@ -209,13 +210,13 @@ late s (finished i t p) = waiting_on s i t (seen p) (find_wait t s.entries)
 
 late_hands_none : (s : Session) (i : Inputs) (t : ℕ) (p : Option Message) (o : Option Wait) → (waiting_on s i t p o).events ≡ []
 unfolding resolved
-late_hands_none s i t p none = refl
-late_hands_none s i t p (some w) = refl
+late_hands_none s i t p None = refl
+late_hands_none s i t p (Some w) = refl
 
 pub late_refuted : NotClosed late
 late_refuted i y wparam lparam f bytes closed k =
     let s : Session = press_open i y wparam lparam in
-    nothing_refuted i y wparam lparam late (λ s m. refl) f bytes (late_hands_none s i 0 (seen none) (find_wait 0 s.entries)) closed k
+    nothing_refuted i y wparam lparam late (λ s m. refl) f bytes (late_hands_none s i 0 (seen None) (find_wait 0 s.entries)) closed k
 
 -- twice
 abbrev pub twice : Session → Given → Effect
@@ -230,7 +231,7 @@ twice_refuted i y wparam lparam f bytes closed k =
     let fits : event_fits v ≡ true = press_fits _ (held_fits_lem (keyboard_of i) (virtual_key wparam) (key_lparam lparam) (keyboard_ok i bytes f.block) (vkey_small wparam) (scan_small lparam)) in
     let two : all_fit (v ∷ v ∷ []) ≡ true = both (event_fits v) (all_fit (v ∷ [])) fits (both (event_fits v) true fits refl) in
     let a = answer_back (v ∷ v ∷ []) (omega arith) two in
-    let n : (twice (press_open i y wparam lparam) (finished i 0 none)).events ≡ v ∷ v ∷ [] = ap (λ (es : List Event). es ++ es) (press-handed-out i y wparam lparam) in
+    let n : (twice (press_open i y wparam lparam) (finished i 0 None)).events ≡ v ∷ v ∷ [] = ap (λ (es : List Event). es ++ es) (press-handed-out i y wparam lparam) in
     let e : v ∷ v ∷ [] ≡ v ∷ [] = sym a.1 ∙ ap (λ (es : List Event). decode_answer (encode_answer es)) (sym n) ∙ finish_forced i y wparam lparam twice (λ s m. refl) f bytes closed k in
     let z : ◌≡◌ {A = ℕ} 2 1 = ap length e in omega arith
 
@@ -247,7 +248,7 @@ module _ (i : Inputs) (y : List ℕ) (wparam : ℕ) where
   both_opened = record { given = brought i outer; answers = y } ∷ record { given = brought i inner; answers = y } ∷ []
 
   abbrev pub both_closings : List Closing
-  both_closings = record { inputs = i; peeked = none; answers = y } ∷ record { inputs = i; peeked = none; answers = y } ∷ []
+  both_closings = record { inputs = i; peeked = None; answers = y } ∷ record { inputs = i; peeked = None; answers = y } ∷ []
 
   abbrev outer_open : Paper
   outer_open = between i y wparam 0
@@ -256,13 +257,13 @@ module _ (i : Inputs) (y : List ℕ) (wparam : ℕ) where
   inner_arrived = record { number = 1; inputs = i; message = inner }
 
   abbrev both_open : Paper
-  both_open = view (push (push (base []) 0 (arrived i y wparam 0) []) 1 inner_arrived []) 2 2 none
+  both_open = view (push (push (base []) 0 (arrived i y wparam 0) []) 1 inner_arrived []) 2 2 None
 
-  inner_answered : first_no (session_questions outer_open.session (brought i inner)) ≡ none
+  inner_answered : first_no (session_questions outer_open.session (brought i inner)) ≡ None
   unfolding first_no session_questions message_questions question5 question6 question7 question8 question9 opens new_entries units_after open_count sort_of assoc
   inner_answered = refl
 
-  inner_passes : WellFormed (closing i y wparam 0) → Fine outer_open → first_no (asked outer_open (record { given = brought i inner; answers = y })) ≡ none
+  inner_passes : WellFormed (closing i y wparam 0) → Fine outer_open → first_no (asked outer_open (record { given = brought i inner; answers = y })) ≡ None
   unfolding first_no question1 question2 question3 question11
   inner_passes f fine =
       let b = session_back outer_open.session (fine_session outer_open fine) in
@@ -291,33 +292,33 @@ module _ (i : Inputs) (y : List ℕ) (wparam : ℕ) where
 
   -- the book when the inner press is finished, and when both are
   inner_noted : Book
-  inner_noted = book_step false both_open.book (finished i 1 none)
+  inner_noted = book_step false both_open.book (finished i 1 None)
 
   still_open : inner_noted.opened ≡ arrived i y wparam 0 ∷ []
   unfolding inner_noted book_step book_finish unless_quit finish_press makes_held
   still_open = refl
 
   both_noted :
-      (book_step false inner_noted (finished i 0 none)).noted
+      (book_step false inner_noted (finished i 0 None)).noted
       ≡ record { number = 0; event = press_event (press_of i outer) } ∷ record { number = 1; event = press_event (press_of i inner) } ∷ []
   unfolding inner_noted book_step book_finish unless_quit finish_press makes_held note_unless note_in fake
   both_noted = refl
 
-  refused-same : (b : Book) → book_step true b (finished i 0 none) ≡ b
+  refused-same : (b : Book) → book_step true b (finished i 0 None) ≡ b
   unfolding book_step
   refused-same b = refl
 
   -- the last closing, answered or refused
   last :
       (v : Event) (l : List Event) (st closed : State) (o : Outcome) → st.out ≡ v ∷ l → st.book ≡ inner_noted →
-      Closed closed (joined st (finished i 0 none) o) → v ≡ press_event (press_of i outer)
+      Closed closed (joined st (finished i 0 None) o) → v ≡ press_event (press_of i outer)
   unfolding joined
   last v l st closed (refused n) e b k =
       let z : arrived i y wparam 0 ∷ [] ≡ [] = sym still_open ∙ ap (λ (x : Book). x.opened) (sym b ∙ sym (refused-same st.book)) ∙ k.nothing_open in
       absurd (let n : ◌≡◌ {A = ℕ} 1 0 = ap length z in omega arith)
   last v l st closed (answered t x a) e b k =
       let z : v ∷ (l ++ decode_answer a) ≡ press_event (press_of i outer) ∷ press_event (press_of i inner) ∷ []
-      = ap (λ (es : List Event). es ++ decode_answer a) (sym e) ∙ k.handed_out ∙ ap (λ (x : Book). map (λ (n : Note). n.event) (book_step false x (finished i 0 none)).noted) b ∙ ap (map (λ (n : Note). n.event)) both_noted in
+      = ap (λ (es : List Event). es ++ decode_answer a) (sym e) ∙ k.handed_out ∙ ap (λ (x : Book). map (λ (n : Note). n.event) (book_step false x (finished i 0 None)).noted) b ∙ ap (map (λ (n : Note). n.event)) both_noted in
       cc
 
   -- with any definition of a finish: what the inner one hands out begins with the outer press's event, or it hands out nothing
@@ -327,28 +328,28 @@ module _ (i : Inputs) (y : List ℕ) (wparam : ℕ) where
 
     inner_same : (o : Option ℕ) (s : Session) → outcome_with E o s (brought i inner) ≡ outcome_by o s (brought i inner)
     unfolding outcome_by
-    inner_same none s = ap (λ (e : Effect). answered e.token (encode e.after) (encode_answer e.events)) (same-opens s inner)
-    inner_same (some n) s = refl
+    inner_same None s = ap (λ (e : Effect). answered e.token (encode e.after) (encode_answer e.events)) (same-opens s inner)
+    inner_same (Some n) s = refl
 
     next-same : (st : State) → next_with E st (record { given = brought i inner; answers = y }) ≡ next st (record { given = brought i inner; answers = y })
     unfolding next outcome_of
     next-same st = ap (λ (o : Outcome). joined st (brought i inner) o) (inner_same (first_no (questions st.area y (brought i inner))) (decode st.area))
 
     abbrev inner_out : List Event
-    inner_out = decode_answer (encode_answer (E both_open.session (finished i 1 none)).events)
+    inner_out = decode_answer (encode_answer (E both_open.session (finished i 1 None)).events)
 
     inner_told :
         (v : Event) (l : List Event) (os : List Outcome) (closed : State) → Fine both_open → inner_out ≡ v ∷ l →
-        Closed closed (run_with E (area_of both_open os) (record { given = finished i 1 none; answers = y } ∷ record { given = finished i 0 none; answers = y } ∷ [])) →
+        Closed closed (run_with E (area_of both_open os) (record { given = finished i 1 None; answers = y } ∷ record { given = finished i 0 None; answers = y } ∷ [])) →
         v ≡ press_event (press_of i outer)
     unfolding joined inner_noted
     inner_told v l os closed fine e k =
-        let g : Given = finished i 1 none in
+        let g : Given = finished i 1 None in
         let c : Call = record { given = g; answers = y } in
-        let d : Call = record { given = finished i 0 none; answers = y } in
+        let d : Call = record { given = finished i 0 None; answers = y } in
         let wf : Wf 2 2 (push (push (base []) 0 (arrived i y wparam 0) []) 1 inner_arrived []) = open_wf (push (base []) 0 (arrived i y wparam 0) []) 1 1 i inner (open_wf (base []) 0 0 i outer tt) in
-        let p = closing_passes (push (base []) 0 (arrived i y wparam 0) []) 1 2 2 inner_arrived [] none (closing i y wparam 0) wf fine.keeps f in
-        let st : State = joined (area_of both_open os) g (outcome_with E none both_open.session g) in
+        let p = closing_passes (push (base []) 0 (arrived i y wparam 0) []) 1 2 2 inner_arrived [] None (closing i y wparam 0) wf fine.keeps f in
+        let st : State = joined (area_of both_open os) g (outcome_with E None both_open.session g) in
         let one : next_with E (area_of both_open os) c ≡ st
         = next-with E both_open os c fine ∙ ap (λ (o : Option ℕ). joined (area_of both_open os) g (outcome_with E o both_open.session g)) p in
         last v l st closed (outcome_with E (first_no (questions st.area y d.given)) (decode st.area) d.given) e refl
@@ -367,19 +368,19 @@ module _ (i : Inputs) (y : List ℕ) (wparam : ℕ) where
 
 -- a nested event handed out at its own finish, its entry dropped
 abbrev pub early_on : Session → Inputs → ℕ → Option Message → Option Wait → Effect
-early_on s i t p none = nothing_done s
-early_on s i t p (some w) =
+early_on s i t p None = nothing_done s
+early_on s i t p (Some w) =
     record {
-      token = none;
+      token = None;
       events = drain (in_place t (finish_event (keyboard_of i) (break_table_of i) s.held w p) []);
-      after = record { handed = s.handed; entries = resolve t none s.entries; held = finish_held (keyboard_of i) s.held w p };
+      after = record { handed = s.handed; entries = resolve t None s.entries; held = finish_held (keyboard_of i) s.held w p };
     }
 
 abbrev pub early : Session → Given → Effect
 early s (brought i m) = effect_of s (brought i m)
 early s (finished i t p) = early_on s i t (seen p) (find_wait t s.entries)
 
-early_hands : (i : Inputs) (y : List ℕ) (wparam : ℕ) → (early (both_open i y wparam).session (finished i 1 none)).events ≡ press_event (press_of i (inner i y wparam)) ∷ []
+early_hands : (i : Inputs) (y : List ℕ) (wparam : ℕ) → (early (both_open i y wparam).session (finished i 1 None)).events ≡ press_event (press_of i (inner i y wparam)) ∷ []
 unfolding seen find_wait in_place drain finish_event holds fake wait_of
 early_hands i y wparam = refl
 
@@ -399,6 +400,6 @@ early_refuted i y wparam f bytes closed k =
     let v : Event = press_event (press_of i (inner i y wparam)) in
     let fits : event_fits v ≡ true = press_fits _ (held_fits_lem (keyboard_of i) (virtual_key wparam) (key_lparam 0x40000000) (keyboard_ok i bytes f.block) (vkey_small wparam) (scan_small 0x40000000)) in
     let a = answer_back (v ∷ []) (omega arith) (both (event_fits v) true fits refl) in
-    let out : decode_answer (encode_answer (early (both_open i y wparam).session (finished i 1 none)).events) ≡ v ∷ []
+    let out : decode_answer (encode_answer (early (both_open i y wparam).session (finished i 1 None)).events) ≡ v ∷ []
     = ap (λ (es : List Event). decode_answer (encode_answer es)) (early_hands i y wparam) ∙ a.1 in
     repeats_differ i y wparam (inner_forced i y wparam early (λ s m. refl) f bytes v [] closed out k)

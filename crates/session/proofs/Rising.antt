@@ -1,15 +1,16 @@
 -- The book's noted events stand by rising number, whatever it is fed.
 -- Assumes nothing.
+use Rattle.std.specs.Prelude.{Option, Some, None}
 use mathlib.Core.Path.{◌≡◌, refl}
 use mathlib.Core.Bool.{Bool, true, false, ◌||◌}
 use mathlib.Core.List.{List, [], ◌∷◌}
-use mathlib.Core.Option.{Option, some, none}
 use Prim.Native.Nat.{ℕ, ◌≤◌, zero-le}
 use native.Mathlib.Omega.{arith}
 use lib.Dec.{leb, eqb}
 use borrow.Author.Tests.{leb-true, leb-false}
 use Rattle.area.specs.Pick.{pick}
-use Rattle.session.specs.Given.{Message, Inputs, Given, brought, finished}
+use Rattle.session.specs.Given.{Inputs, Given, brought, finished}
+use Rattle.session.specs.declared.Message.{Message}
 use Rattle.session.specs.Event.{Event}
 use Rattle.session.specs.Builder.{keyboard_of, fake, press_event, release_event}
 use Rattle.session.specs.Focus.{focus_events}
@@ -48,13 +49,13 @@ unless_rises false n e l r = note_rises 0 n e l (omega arith) r
 
 char-opened : (b : Book) (i : Inputs) (m : Message) (p : Option Press) → Ordered b → Ordered (book_character b i m p)
 unfolding book_character book_open
-char-opened b i m none r = r
-char-opened b i m (some h) r = r
+char-opened b i m None r = r
+char-opened b i m (Some h) r = r
 
 dead-noted : (b : Book) (p : Option Press) → Ordered b → Ordered (book_dead_character b p)
 unfolding book_dead_character
-dead-noted b none r = r
-dead-noted b (some h) r = note_rises 0 b.count _ b.noted (omega arith) r
+dead-noted b None r = r
+dead-noted b (Some h) r = note_rises 0 b.count _ b.noted (omega arith) r
 
 message-noted : (b : Book) (i : Inputs) (m : Message) → Ordered b → Ordered (book_message b i m)
 unfolding book_message book_open book_focus
@@ -69,8 +70,8 @@ message-noted b i m r =
 char-finished : (x : Bool) (p : Option Press) (b : Book) (os : List Arrival) (n : ℕ) (i : Inputs) → Ordered b → Ordered (finish_character x p b os n i)
 unfolding finish_character
 char-finished true p b os n i r = r
-char-finished false none b os n i r = r
-char-finished false (some h) b os n i r = note_rises 0 _ _ b.noted zero-le r
+char-finished false None b os n i r = r
+char-finished false (Some h) b os n i r = note_rises 0 _ _ b.noted zero-le r
 
 finish-noted : (b : Book) (i : Inputs) (p : Option Message) (l : List Arrival) → Ordered b → Ordered (book_finish b i p l)
 unfolding book_finish finish_press finish_release

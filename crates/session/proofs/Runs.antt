@@ -1,9 +1,9 @@
 -- Runs on areas are runs on paper: each call finds the area of a session, so none gets 4, and hands out what the paper says.
 -- Assumes nothing.
+use Rattle.std.specs.Prelude.{Option, Some, None}
 use mathlib.Core.Path.{◌≡◌, refl, ap, sym, ◌∙◌, subst}
 use mathlib.Core.Bool.{Bool, true, false}
 use mathlib.Core.List.{List, [], ◌∷◌, ◌++◌, append_assoc, append-nil}
-use mathlib.Core.Option.{Option, some, none}
 use Prim.Native.Nat.{ℕ, ◌+◌, ◌<◌}
 use native.Mathlib.Omega.{arith}
 use borrow.Author.Tests.{le-leb}
@@ -47,7 +47,7 @@ pub start_fine : Fine (record { session = fresh_session; tokens = []; book = emp
 unfolding fresh_session empty_book open_count units_within entries_fit held_fits
 start_fine =
     record {
-      inv = record { stack = base []; h = 0; c = 0; p = none; wf = tt; same = refl };
+      inv = record { stack = base []; h = 0; c = 0; p = None; wf = tt; same = refl };
       keeps = record { few = omega arith; fit = omega arith; tokens = omega arith; short = refl; stored = refl; press_in = refl };
     }
 
@@ -62,11 +62,11 @@ start_area = rw fresh-area refl
 
 -- ---- the questions
 
-first_step : (n lo : ℕ) (b : Bool) (m : ℕ) (o : Option ℕ) → (o ≡ some n → lo < n) → lo < m → pick b o (some m) ≡ some n → lo < n
+first_step : (n lo : ℕ) (b : Bool) (m : ℕ) (o : Option ℕ) → (o ≡ Some n → lo < n) → lo < m → pick b o (Some m) ≡ Some n → lo < n
 first_step n lo true m o f a e = f e
 first_step n lo false m o f a e = let h : m ≡ n = cc in subst (λ (x : ℕ). lo < x) h a
 
-first_above : (n lo : ℕ) (qs : List (ℕ × Bool)) → All (λ (q : ℕ × Bool). lo < q.0) qs → first_no qs ≡ some n → lo < n
+first_above : (n lo : ℕ) (qs : List (ℕ × Bool)) → All (λ (q : ℕ × Bool). lo < q.0) qs → first_no qs ≡ Some n → lo < n
 unfolding first_no
 first_above n lo [] a e = absurd (let z : ◌≡◌ {A = ℕ} 0 1 = cc in omega arith)
 first_above n lo (q ∷ qs) a e = first_step n lo q.1 q.0 (first_no qs) (λ e. first_above n lo qs a.1 e) a.0 e
@@ -80,7 +80,7 @@ session_above s (finished i t p) = (omega arith, tt)
 abbrev pub early : Bool → Bool → Bool → Bool → List (ℕ × Bool) → List (ℕ × Bool)
 early a b c d qs = (1, a) ∷ (2, b) ∷ (3, c) ∷ (11, d) ∷ (4, true) ∷ qs
 
-not_four : (a b c d : Bool) (n : ℕ) (qs : List (ℕ × Bool)) → All (λ (q : ℕ × Bool). 4 < q.0) qs → first_no (early a b c d qs) ≡ some n → n ≡ 4 → ⊥
+not_four : (a b c d : Bool) (n : ℕ) (qs : List (ℕ × Bool)) → All (λ (q : ℕ × Bool). 4 < q.0) qs → first_no (early a b c d qs) ≡ Some n → n ≡ 4 → ⊥
 unfolding first_no
 not_four false b c d n qs k e = λ f. let h : 1 ≡ n = cc in omega arith
 not_four true false c d n qs k e = λ f. let h : 2 ≡ n = cc in omega arith
@@ -88,7 +88,7 @@ not_four true true false d n qs k e = λ f. let h : 3 ≡ n = cc in omega arith
 not_four true true true false n qs k e = λ f. let h : 11 ≡ n = cc in omega arith
 not_four true true true true n qs k e = λ f. omega (arith, first_above n 4 qs k e)
 
-pub passed : (a b c d : Bool) (qs : List (ℕ × Bool)) → first_no (early a b c d qs) ≡ none → (c ≡ true) × (first_no qs ≡ none)
+pub passed : (a b c d : Bool) (qs : List (ℕ × Bool)) → first_no (early a b c d qs) ≡ None → (c ≡ true) × (first_no qs ≡ None)
 unfolding first_no
 passed false b c d qs e = (cc, cc)
 passed true false c d qs e = (cc, cc)
@@ -122,9 +122,9 @@ next_by q os c f =
 
 -- an answered call, whatever its questions were
 pub answered-next :
-    (q : Paper) (os : List Outcome) (g : Given) → Fine q → KeyboardOk (keyboard_of (inputs_of g)) → first_no (session_questions q.session g) ≡ none →
+    (q : Paper) (os : List Outcome) (g : Given) → Fine q → KeyboardOk (keyboard_of (inputs_of g)) → first_no (session_questions q.session g) ≡ None →
     let e : Effect = effect_of q.session g in
-    (joined (area_of q os) g (outcome_by none q.session g) ≡ area_of (done q g e) (os ++ (answered e.token (encode e.after) (encode_answer e.events) ∷ []))) × Fine (done q g e)
+    (joined (area_of q os) g (outcome_by None q.session g) ≡ area_of (done q g e) (os ++ (answered e.token (encode e.after) (encode_answer e.events) ∷ []))) × Fine (done q g e)
 unfolding joined outcome_by done
 answered-next q os g f i e =
     let l = call_leaves q.session g i f.keeps e in
@@ -135,10 +135,10 @@ answered-next q os g f i e =
     called =
         let v = f.inv in
         subst (λ (x : Paper). Good (done x g (effect_of x.session g))) (sym v.same)
-        (call_good v.stack v.h v.c v.p g v.wf (subst (λ (x : Paper). first_no (session_questions x.session g) ≡ none) v.same e))
+        (call_good v.stack v.h v.c v.p g v.wf (subst (λ (x : Paper). first_no (session_questions x.session g) ≡ None) v.same e))
 
 -- SCOPE 7.6: a refused call changes nothing, but for the list of outcomes
-refused-next : (q : Paper) (os : List Outcome) (g : Given) (n : ℕ) → joined (area_of q os) g (outcome_by (some n) q.session g) ≡ area_of q (os ++ (refused n ∷ []))
+refused-next : (q : Paper) (os : List Outcome) (g : Given) (n : ℕ) → joined (area_of q os) g (outcome_by (Some n) q.session g) ≡ area_of q (os ++ (refused n ∷ []))
 unfolding joined outcome_by book_step
 refused-next q os g n = refl
 
@@ -146,7 +146,7 @@ pub next_fine : (q : Paper) (os : List Outcome) (c : Call) → Fine q → Bytes 
 next_fine q os c f r = go (first_no (asked q c)) refl
   where
     go : (o : Option ℕ) → first_no (asked q c) ≡ o → Next q os c
-    go (some n) e =
+    go (Some n) e =
         record {
           paper = q;
           outcome = refused n;
@@ -154,7 +154,7 @@ next_fine q os c f r = go (first_no (asked q c)) refl
           same = next_by q os c f ∙ ap (λ (o : Option ℕ). joined (area_of q os) c.given (outcome_by o q.session c.given)) e ∙ refused-next q os c.given n;
           no_four = (not_four (question1 (encode q.session) c.answers) (question2 c.given) (question3 c.given) (question11 c.given) n (session_questions q.session c.given) (session_above q.session c.given) e, tt);
         }
-    go none e =
+    go None e =
         let p = passed (question1 (encode q.session) c.answers) (question2 c.given) (question3 c.given) (question11 c.given) (session_questions q.session c.given) e in
         let a = answered-next q os c.given f (inputs-ok c.given r p.0) p.1 in
         record {

@@ -1,14 +1,15 @@
 -- The calls and the book sort messages by tests of their own: the two agree.
 -- Assumes nothing.
+use Rattle.std.specs.Prelude.{Option, Some, None}
 use mathlib.Core.Path.{◌≡◌, refl, sym, subst}
 use mathlib.Core.Bool.{Bool, true, false, not, ◌||◌}
-use mathlib.Core.Option.{Option, some, none}
 use Prim.Native.Nat.{ℕ}
 use lib.Dec.{eqb}
 use borrow.Author.Tests.{eqb-true}
 use Rattle.area.specs.Pick.{pick}
 use Rattle.area.specs.Look.{assoc}
-use Rattle.session.specs.Given.{Message, Inputs}
+use Rattle.session.specs.Given.{Inputs}
+use Rattle.session.specs.declared.Message.{Message}
 use Rattle.session.specs.Builder.{keyboard_of}
 use Rattle.session.specs.Focus.{focus_events}
 use Rattle.session.specs.Calls.{Sort, key_down, key_up, char, dead_char, ignored, focus, sort_of, seen, holds, more_coming}
@@ -76,8 +77,8 @@ called b i m = (agrees b i m.wparam m.lparam m.kind).1
 
 pub quit_alike : (p : Option Message) → seen p ≡ unless_quit p
 unfolding seen unless_quit assoc
-quit_alike none = refl
-quit_alike (some m) = refl
+quit_alike None = refl
+quit_alike (Some m) = refl
 
 none_of : (a b c d : Bool) → pick a false (pick b false (pick c false (pick d false true))) ≡ not ((a || c) || (b || d))
 none_of true b c d = refl
@@ -89,8 +90,8 @@ none_of false false false false = refl
 
 pub held_alike : (p : Option Message) → holds p ≡ makes_held p
 unfolding holds makes_held assoc
-held_alike none = refl
-held_alike (some m) = none_of (eqb m.kind 0x100) (eqb m.kind 0x101) (eqb m.kind 0x104) (eqb m.kind 0x105)
+held_alike None = refl
+held_alike (Some m) = none_of (eqb m.kind 0x100) (eqb m.kind 0x101) (eqb m.kind 0x104) (eqb m.kind 0x105)
 
 either_of : (a b : Bool) → pick a true (pick b true false) ≡ (a || b)
 either_of true b = refl
@@ -99,5 +100,5 @@ either_of false false = refl
 
 pub more_alike : (p : Option Message) → more_coming p ≡ more_to_come p
 unfolding more_coming more_to_come assoc
-more_alike none = refl
-more_alike (some m) = either_of (eqb m.kind 0x102) (eqb m.kind 0x106)
+more_alike None = refl
+more_alike (Some m) = either_of (eqb m.kind 0x102) (eqb m.kind 0x106)

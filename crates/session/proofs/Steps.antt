@@ -1,9 +1,9 @@
 -- One answered call, kind by kind: the session, the tokens, the book and what is handed out stay those of one stack.
 -- Assumes nothing.
+use Rattle.std.specs.Prelude.{Option, Some, None}
 use mathlib.Core.Path.{◌≡◌, refl, ap, sym, ◌∙◌, subst}
 use mathlib.Core.Bool.{Bool, true, false}
 use mathlib.Core.List.{List, [], ◌∷◌, ◌++◌, append_assoc, append-nil, map, map-append}
-use mathlib.Core.Option.{Option, some, none}
 use Prim.Native.Nat.{ℕ, suc, ◌+◌, ◌<◌}
 use native.Mathlib.Omega.{arith}
 use lib.ListN.{length}
@@ -11,7 +11,8 @@ use borrow.Author.Tests.{eqb-true}
 use Rattle.area.specs.Pick.{pick}
 use Rattle.text.specs.Message.{char_units}
 use Rattle.lookup.specs.LParam.{key_lparam, virtual_key}
-use Rattle.session.specs.Given.{Message, Inputs, Given, brought, finished}
+use Rattle.session.specs.Given.{Inputs, Given, brought, finished}
+use Rattle.session.specs.declared.Message.{Message}
 use Rattle.session.specs.Event.{Event, Info, Held}
 use Rattle.session.specs.Builder.{Keyboard, keyboard_of, break_table_of, held_of, with_units, press_event, dead_char_event, release_event, fake}
 use Rattle.session.specs.Focus.{focus_events}
@@ -97,14 +98,14 @@ behind_good (push S t a D) h c p p' es w =
 -- the press that the book holds after it
 unfoldable pub held_next : Option Press → Arrival → Inputs → Option Message → Option Press
 held_next p a i pk =
-    pick (press_kind a.message.kind) (pick (makes_held pk) (some (record { inputs = i; message = a.message; units = [] })) none)
-    (pick (release_kind a.message.kind) p (pick (more_to_come pk) p none))
+    pick (press_kind a.message.kind) (pick (makes_held pk) (Some (record { inputs = i; message = a.message; units = [] })) None)
+    (pick (release_kind a.message.kind) p (pick (more_to_come pk) p None))
 
 -- a press: it is held, or its event is noted under its own number
 held_or_noted :
     (x f : Bool) (os : List Arrival) (q : Option Press) (c n : ℕ) (e : Event) (l : List Note) → ◌≡◌ {A = Book}
-    (pick x (record { opened = os; held = q; count = c; noted = l }) (record { opened = os; held = none; count = c; noted = note_unless f n e l }))
-    (record { opened = os; held = pick x q none; count = c; noted = note_opt n (pick x none (pick f none (some e))) l })
+    (pick x (record { opened = os; held = q; count = c; noted = l }) (record { opened = os; held = None; count = c; noted = note_unless f n e l }))
+    (record { opened = os; held = pick x q None; count = c; noted = note_opt n (pick x None (pick f None (Some e))) l })
 unfolding note_opt note_unless
 held_or_noted true f os q c n e l = refl
 held_or_noted false true os q c n e l = refl
@@ -112,13 +113,13 @@ held_or_noted false false os q c n e l = refl
 
 press-noted :
     (b : Book) (os : List Arrival) (a : Arrival) (i : Inputs) (pk : Option Message) →
-    finish_press b os a i pk ≡ record { opened = os; held = pick (makes_held pk) (some (record { inputs = i; message = a.message; units = [] })) none; count = b.count; noted = note_opt a.number (finish_event (keyboard_of i) (break_table_of i) (held_in b.held) (press (virtual_key a.message.wparam) (key_lparam a.message.lparam)) pk) b.noted }
+    finish_press b os a i pk ≡ record { opened = os; held = pick (makes_held pk) (Some (record { inputs = i; message = a.message; units = [] })) None; count = b.count; noted = note_opt a.number (finish_event (keyboard_of i) (break_table_of i) (held_in b.held) (press (virtual_key a.message.wparam) (key_lparam a.message.lparam)) pk) b.noted }
 unfolding finish_press finish_event
 press-noted b os a i pk =
     rw (held_alike pk)
-    (held_or_noted (makes_held pk) (fake (keyboard_of i) (info_of i a.message) pk) os (some (record { inputs = i; message = a.message; units = [] })) b.count a.number (press_event (press_of i a.message)) b.noted)
+    (held_or_noted (makes_held pk) (fake (keyboard_of i) (info_of i a.message) pk) os (Some (record { inputs = i; message = a.message; units = [] })) b.count a.number (press_event (press_of i a.message)) b.noted)
 
-unless_noted : (f : Bool) (n : ℕ) (e : Event) (l : List Note) → note_unless f n e l ≡ note_opt n (pick f none (some e)) l
+unless_noted : (f : Bool) (n : ℕ) (e : Event) (l : List Note) → note_unless f n e l ≡ note_opt n (pick f None (Some e)) l
 unfolding note_opt note_unless
 unless_noted true n e l = refl
 unless_noted false n e l = refl
@@ -135,12 +136,12 @@ release-noted b os a i pk =
 -- a character: the held press's event, under the character's own number
 char-noted :
     (x : Bool) (p : Option Press) (b : Book) (os : List Arrival) (n : ℕ) (i : Inputs) (pk : Option Message) → more_coming pk ≡ x →
-    finish_character x p b os n i ≡ record { opened = os; held = pick x p none; count = b.count; noted = note_opt n (finish_event (keyboard_of i) (break_table_of i) (held_in p) character pk) b.noted }
+    finish_character x p b os n i ≡ record { opened = os; held = pick x p None; count = b.count; noted = note_opt n (finish_event (keyboard_of i) (break_table_of i) (held_in p) character pk) b.noted }
 unfolding note_opt finish_character finish_event
-char-noted true none b os n i pk e = refl
-char-noted true (some h) b os n i pk e = rw e refl
-char-noted false none b os n i pk e = refl
-char-noted false (some h) b os n i pk e = rw e refl
+char-noted true None b os n i pk e = refl
+char-noted true (Some h) b os n i pk e = rw e refl
+char-noted false None b os n i pk e = refl
+char-noted false (Some h) b os n i pk e = rw e refl
 
 -- what the book notes at a finish is the event that the entry completes
 book-finish :
@@ -159,21 +160,21 @@ held_made : (i : Inputs) (m : Message) → held_press (record { inputs = i; mess
 unfolding held_press with_units held_of
 held_made i m = refl
 
-char-held : (x : Bool) (p : Option Press) (i : Inputs) (pk : Option Message) → more_coming pk ≡ x → held_in (pick x p none) ≡ finish_held (keyboard_of i) (held_in p) character pk
+char-held : (x : Bool) (p : Option Press) (i : Inputs) (pk : Option Message) → more_coming pk ≡ x → held_in (pick x p None) ≡ finish_held (keyboard_of i) (held_in p) character pk
 unfolding finish_held
-char-held true none i pk e = refl
-char-held true (some h) i pk e = rw e refl
-char-held false none i pk e = refl
-char-held false (some h) i pk e = rw e refl
+char-held true None i pk e = refl
+char-held true (Some h) i pk e = rw e refl
+char-held false None i pk e = refl
+char-held false (Some h) i pk e = rw e refl
 
 press-held :
     (a : Arrival) (p : Option Held) (i : Inputs) (pk : Option Message) →
-    held_in (pick (makes_held pk) (some (record { inputs = i; message = a.message; units = [] })) none) ≡ finish_held (keyboard_of i) p (press (virtual_key a.message.wparam) (key_lparam a.message.lparam)) pk
+    held_in (pick (makes_held pk) (Some (record { inputs = i; message = a.message; units = [] })) None) ≡ finish_held (keyboard_of i) p (press (virtual_key a.message.wparam) (key_lparam a.message.lparam)) pk
 unfolding finish_held
 press-held a p i pk = rw (held_alike pk) (put (makes_held pk))
   where
-    put : (x : Bool) → held_in (pick x (some (record { inputs = i; message = a.message; units = [] })) none) ≡ pick x (some (press_of i a.message)) none
-    put true = ap (λ (h : Held). some h) (held_made i a.message)
+    put : (x : Bool) → held_in (pick x (Some (record { inputs = i; message = a.message; units = [] })) None) ≡ pick x (Some (press_of i a.message)) None
+    put true = ap (λ (h : Held). Some h) (held_made i a.message)
     put false = refl
 
 release-held : (p : Option Held) (b : Keyboard) (n : Info) (pk : Option Message) → p ≡ finish_held b p (release n) pk
@@ -194,10 +195,10 @@ held_next_lem p a i pk = go (press_kind a.message.kind) (release_kind a.message.
 -- leaves an empty queue; any other's event takes the entry's place, and nothing is handed out
 
 abbrev hands_out : List Event → Option Held → Effect
-hands_out es h = record { token = none; events = es; after = record { handed = 0; entries = []; held = h } }
+hands_out es h = record { token = None; events = es; after = record { handed = 0; entries = []; held = h } }
 
 abbrev waits : ℕ → List Entry → Option Held → Effect
-waits handed l h = record { token = none; events = []; after = record { handed = handed; entries = l; held = h } }
+waits handed l h = record { token = None; events = []; after = record { handed = handed; entries = l; held = h } }
 
 abbrev queued : ℕ → List Entry → Option Held → Session
 queued handed l h = record { handed = handed; entries = l; held = h }
@@ -292,12 +293,12 @@ message_good :
 unfolding message_effect book_by Called opening book_open char_opened book_character dead_char_answered book_dead_character book_focus note_all
 message_good key_down S h c p i m w q = open_good S h c p p i m _ w (press_waits c i m q)
 message_good key_up S h c p i m w q = open_good S h c p p i m _ w (release_waits c i m q.0 q.1)
-message_good char S h c none i m w q = good S h c none _ w (simp append-nil)
-message_good char S h c (some u) i m w q =
+message_good char S h c None i m w q = good S h c None _ w (simp append-nil)
+message_good char S h c (Some u) i m w q =
     rw (units_added u (char_units m.wparam))
-    (open_good S h c (some u) (some (record { inputs = u.inputs; message = u.message; units = u.units ++ char_units m.wparam })) i m _ w (char_waits c i m q.0 q.1))
-message_good dead_char S h c none i m w q = good S h c none _ w (simp append-nil)
-message_good dead_char S h c (some u) i m w q = behind_good S h c (some u) none (dead_char_event (held_press u) ∷ []) w
+    (open_good S h c (Some u) (Some (record { inputs = u.inputs; message = u.message; units = u.units ++ char_units m.wparam })) i m _ w (char_waits c i m q.0 q.1))
+message_good dead_char S h c None i m w q = good S h c None _ w (simp append-nil)
+message_good dead_char S h c (Some u) i m w q = behind_good S h c (Some u) None (dead_char_event (held_press u) ∷ []) w
 message_good (focus st) S h c p i m w q = behind_good S h c p p (focus_events (keyboard_of i) st) w
 message_good ignored S h c p i m w q = good S h c p _ w (simp append-nil)
 
@@ -311,7 +312,7 @@ brought_good S h c p i m w =
     rw (book_sorted b i m) (message_good (sort_of m) S h c p i m w (called b i m))
 
 -- the latest open message's token is the only one that question 10 lets through
-latest_token : (t : ℕ) (o : Option ℕ) (u : ℕ) → o ≡ some u → is_token t o ≡ true → t ≡ u
+latest_token : (t : ℕ) (o : Option ℕ) (u : ℕ) → o ≡ Some u → is_token t o ≡ true → t ≡ u
 latest_token t o u e q = eqb-true t u (rw e at q)
 
 finish-at :
@@ -328,7 +329,7 @@ finish-at (push S u a D) h c p i t pk w e =
     (finish_good S u h c a D p i pk w))
 
 -- the questions of a call that brings a message do not matter here, those of a finish make its token the latest
-passed_10 : (b : Bool) → first_no ((10, b) ∷ []) ≡ none → b ≡ true
+passed_10 : (b : Bool) → first_no ((10, b) ∷ []) ≡ None → b ≡ true
 unfolding first_no
 passed_10 true e = refl
 passed_10 false e = cc
@@ -336,7 +337,7 @@ passed_10 false e = cc
 pub call_good :
     (S : Stack) (h c : ℕ) (p : Option Press) (g : Given) → Wf c h S →
     let v : Paper = view S h c p in
-    first_no (session_questions v.session g) ≡ none → Good (done v g (effect_of v.session g))
+    first_no (session_questions v.session g) ≡ None → Good (done v g (effect_of v.session g))
 unfolding session_questions message_questions finish_questions
 call_good S h c p (brought i m) w e = brought_good S h c p i m w
 call_good S h c p (finished i t pk) w e = finish-at S h c p i t pk w (passed_10 (question10 (view S h c p).session t) e)

@@ -1,10 +1,10 @@
 -- What a public call answers, for every input: the areas as they were, what it is given, and what becomes of all of them.
 -- Assumes nothing.
-use Rattle.std.specs.Prelude.{ℕ, Bool, List, ◌∷◌, eqb, replicate, ℤ, pos}
-use Rattle.std.proofs.Math.Option.{Option, some, none}
+use Rattle.std.specs.Prelude.{ℕ, Bool, List, ◌∷◌, eqb, replicate, ℤ, pos, Result, Ok, Err, ⊤, Option, Some, None}
 use Rattle.area.specs.Pick.{pick}
 use Rattle.session.specs.Limits.{AREA}
-use Rattle.session.specs.Given.{Message, Inputs, Given, brought, finished, WM_SYSKEYDOWN}
+use Rattle.session.specs.Given.{Inputs, Given, brought, finished, WM_SYSKEYDOWN}
+use Rattle.session.specs.declared.Message.{Message}
 use Rattle.session.specs.Session.{Session}
 use Rattle.session.specs.Area.{encode, decode, session_ok, encode_answer}
 use Rattle.session.specs.Calls.{Sort, key_down, key_up, char, dead_char, ignored, focus, sort_of, effect_of}
@@ -13,10 +13,7 @@ use Rattle.session.specs.declared.ProcResult.{ProcResult}
 use Rattle.session.specs.declared.ProcResult.TheVariants.{DefWindowProc, Value}
 use Rattle.session.specs.declared.Refusal.{Refusal}
 use Rattle.session.specs.declared.Refusal.TheVariants as no
-use Rattle.session.specs.declared.OpenAnswer.{OpenAnswer}
-use Rattle.session.specs.declared.OpenAnswer.TheVariants as o
-use Rattle.session.specs.declared.FinishAnswer.{FinishAnswer}
-use Rattle.session.specs.declared.FinishAnswer.TheVariants as f
+use Rattle.session.specs.declared.PendingMessageToken.{PendingMessageToken}
 
 -- the area of a fresh session
 unfoldable pub fresh_area : List ℕ
@@ -36,8 +33,8 @@ questions x y g =
 
 -- SCOPE 6.0: an answered call writes its events, zeros behind them
 unfoldable pub outcome_by : Option ℕ → Session → Given → Outcome
-outcome_by (some n) s g = refused n
-outcome_by none s g =
+outcome_by (Some n) s g = refused n
+outcome_by None s g =
     answered (effect_of s g).token (encode (effect_of s g).after) (encode_answer (effect_of s g).events)
 
 unfoldable pub outcome_of : List ℕ → List ℕ → Given → Outcome
@@ -65,14 +62,14 @@ pub data Said : Type 0 where
   token : ℕ → Said
   no_token : Said
 
-unfoldable pub open_said : OpenAnswer → Said
-open_said (o.Refused r) = refusal (refusal_number r)
-open_said (o.Opened t) = token t.0
-open_said o.OpenedNone = no_token
+unfoldable pub open_said : Result (Option PendingMessageToken) Refusal → Said
+open_said (Err r) = refusal (refusal_number r)
+open_said (Ok (Some t)) = token t.0
+open_said (Ok None) = no_token
 
-unfoldable pub finish_said : FinishAnswer → Said
-finish_said (f.Refused r) = refusal (refusal_number r)
-finish_said f.Finished = no_token
+unfoldable pub finish_said : Result ⊤ Refusal → Said
+finish_said (Err r) = refusal (refusal_number r)
+finish_said (Ok done) = no_token
 
 -- value 0, an LRESULT of 64 bits with a sign
 abbrev pub zero_result : ℤ
@@ -96,8 +93,8 @@ pub record Left : Type 0 where
   pub answers : List ℕ
 
 abbrev pub said_token : Option ℕ → Said
-said_token none = no_token
-said_token (some t) = token t
+said_token None = no_token
+said_token (Some t) = token t
 
 -- SCOPE 6.0: where a call is refused, both areas and `result` keep what they had
 unfoldable pub left_by : Outcome → List ℕ → List ℕ → ProcResult → ProcResult → Left

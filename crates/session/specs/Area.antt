@@ -1,7 +1,6 @@
 -- The one area of a session, and that of the events that a call hands out. docs/AREAS.md has the same byte by byte.
 -- Assumes nothing.
-use Rattle.std.specs.Prelude.{ℕ, Bool, true, false, ◌&&◌, List, [], ◌∷◌, eqb, ltb, length}
-use Rattle.std.proofs.Math.Option.{Option, some, none}
+use Rattle.std.specs.Prelude.{ℕ, Bool, true, false, ◌&&◌, List, [], ◌∷◌, eqb, ltb, length, Option, Some, None}
 use Rattle.area.specs.Pick.{pick}
 use Rattle.text.specs.Unicode.{well_formed}
 use Rattle.keys.specs.Key.{key_number, key_aux, key_value, key_at, key_ok}
@@ -41,12 +40,12 @@ location = via location_number location_at (checked (λ n. ltb n location_cases)
 
 -- a text: its length, its bytes, zeros behind; no text has length 0
 abbrev pub bytes_of : Option (List ℕ) → List ℕ
-bytes_of none = []
-bytes_of (some t) = t
+bytes_of None = []
+bytes_of (Some t) = t
 
 abbrev pub text_from : List ℕ → Option (List ℕ)
-text_from [] = none
-text_from (b ∷ t) = some (b ∷ t)
+text_from [] = None
+text_from (b ∷ t) = Some (b ∷ t)
 
 unfoldable pub text_bytes : ℕ → Codec (List ℕ)
 text_bytes most = checked well_formed (list_of 1 most byte)
@@ -138,12 +137,12 @@ entry = via to_entry (λ p. entry_of p.0 p.1) (pair (number 2) (either (slot EVE
 -- ---- the session
 
 abbrev pub to_held : Option Held → Either (Unit {0}) Held
-to_held none = left tt
-to_held (some h) = right h
+to_held None = left tt
+to_held (Some h) = right h
 
 abbrev pub from_held : Either (Unit {0}) Held → Option Held
-from_held (left u) = none
-from_held (right h) = some h
+from_held (left u) = None
+from_held (right h) = Some h
 
 -- whether a press is held, and which
 unfoldable pub held_field : Codec (Option Held)

@@ -2,12 +2,12 @@
 -- sees nothing.
 -- With the calls it shares what makes events and fakes (Builder, Focus), and nothing that decides what is held, open, ignored or queued.
 -- Assumes nothing.
-use Rattle.std.specs.Prelude.{ℕ, suc, Bool, true, false, not, ◌&&◌, ◌||◌, List, [], ◌∷◌, ◌++◌, eqb, leb}
-use Rattle.std.proofs.Math.Option.{Option, some, none}
+use Rattle.std.specs.Prelude.{ℕ, suc, Bool, true, false, not, ◌&&◌, ◌||◌, List, [], ◌∷◌, ◌++◌, eqb, leb, Option, Some, None}
 use Rattle.area.specs.Pick.{pick}
 use Rattle.text.specs.Message.{char_units}
 use Rattle.lookup.specs.LParam.{key_lparam, virtual_key}
-use Rattle.session.specs.Given.{Message, Inputs, Given, brought, finished}
+use Rattle.session.specs.Given.{Inputs, Given, brought, finished}
+use Rattle.session.specs.declared.Message.{Message}
 use Rattle.session.specs.Event.{Event, Info, Held}
 use Rattle.session.specs.Builder.{keyboard_of, break_table_of, from_message, held_of, with_units, press_event, dead_char_event, char_event, release_event, fake}
 use Rattle.session.specs.Focus.{focus_events}
@@ -43,7 +43,7 @@ pub record Book : Type 0 where
 
 -- SCOPE 7.5: at first there are none
 unfoldable pub empty_book : Book
-empty_book = record { opened = []; held = none; count = 0; noted = [] }
+empty_book = record { opened = []; held = None; count = 0; noted = [] }
 
 -- ---- kinds of messages, as SCOPE 2.3 and 7.6 to 7.10 list them
 
@@ -87,8 +87,8 @@ held_press h = with_units (press_of h.inputs h.message) h.units
 
 -- the held press, or none, as the session keeps it
 abbrev pub held_in : Option Press → Option Held
-held_in none = none
-held_in (some q) = some (held_press q)
+held_in None = None
+held_in (Some q) = Some (held_press q)
 
 -- ---- a message
 
@@ -99,15 +99,15 @@ book_open b i m h =
 
 -- SCOPE 7.7: 102 and 106 also add their units to the held press; without one the message is ignored
 unfoldable pub book_character : Book → Inputs → Message → Option Press → Book
-book_character b i m none = b
-book_character b i m (some h) =
-    book_open b i m (some (record { inputs = h.inputs; message = h.message; units = h.units ++ char_units m.wparam }))
+book_character b i m None = b
+book_character b i m (Some h) =
+    book_open b i m (Some (record { inputs = h.inputs; message = h.message; units = h.units ++ char_units m.wparam }))
 
 -- SCOPE 7.8: the held press's event is noted under the message's number, and nothing is held. SCOPE 7.6: with none held nothing changes
 unfoldable pub book_dead_character : Book → Option Press → Book
-book_dead_character b none = b
-book_dead_character b (some h) =
-    record { opened = b.opened; held = none; count = suc b.count; noted = note_in b.count (dead_char_event (held_press h)) b.noted }
+book_dead_character b None = b
+book_dead_character b (Some h) =
+    record { opened = b.opened; held = None; count = suc b.count; noted = note_in b.count (dead_char_event (held_press h)) b.noted }
 
 -- SCOPE 7.9: the events of a focus change, under the message's number
 unfoldable pub book_focus : Book → List Event → Book
@@ -126,18 +126,18 @@ book_message b i m =
 
 -- SCOPE 3.17: what was peeked, unless it is 12
 unfoldable pub unless_quit : Option Message → Option Message
-unless_quit none = none
-unless_quit (some m) = pick (eqb m.kind 0x12) none (some m)
+unless_quit None = None
+unless_quit (Some m) = pick (eqb m.kind 0x12) None (Some m)
 
 -- SCOPE 3.5: a peeked kind other than 100, 101, 104, 105
 unfoldable pub makes_held : Option Message → Bool
-makes_held none = false
-makes_held (some m) = not (press_kind m.kind || release_kind m.kind)
+makes_held None = false
+makes_held (Some m) = not (press_kind m.kind || release_kind m.kind)
 
 -- SCOPE 3.10: where the peeked kind is 102 or 106 more is coming
 unfoldable pub more_to_come : Option Message → Bool
-more_to_come none = false
-more_to_come (some m) = character_kind m.kind
+more_to_come None = false
+more_to_come (Some m) = character_kind m.kind
 
 -- SCOPE 7.10: an event is noted under its number unless fake
 unfoldable pub note_unless : Bool → ℕ → Event → List Note → List Note
@@ -148,8 +148,8 @@ note_unless is_fake n e l = pick is_fake l (note_in n e l)
 unfoldable pub finish_press : Book → List Arrival → Arrival → Inputs → Option Message → Book
 finish_press b os a i p =
     pick (makes_held p)
-    (record { opened = os; held = some (record { inputs = i; message = a.message; units = [] }); count = b.count; noted = b.noted })
-    (record { opened = os; held = none; count = b.count; noted = note_unless (fake (keyboard_of i) (info_of i a.message) p) a.number (press_event (press_of i a.message)) b.noted })
+    (record { opened = os; held = Some (record { inputs = i; message = a.message; units = [] }); count = b.count; noted = b.noted })
+    (record { opened = os; held = None; count = b.count; noted = note_unless (fake (keyboard_of i) (info_of i a.message) p) a.number (press_event (press_of i a.message)) b.noted })
 
 -- SCOPE 7.10, a release; SCOPE 3.4: made from what its open brought, the fake test by the finish's block
 unfoldable pub finish_release : Book → List Arrival → Arrival → Inputs → Option Message → Book
@@ -160,9 +160,9 @@ finish_release b os a i p =
 -- and nothing is held
 unfoldable pub finish_character : Bool → Option Press → Book → List Arrival → ℕ → Inputs → Book
 finish_character true h b os n i = record { opened = os; held = h; count = b.count; noted = b.noted }
-finish_character false none b os n i = record { opened = os; held = none; count = b.count; noted = b.noted }
-finish_character false (some h) b os n i =
-    record { opened = os; held = none; count = b.count; noted = note_in n (char_event (keyboard_of i) (break_table_of i) (held_press h)) b.noted }
+finish_character false None b os n i = record { opened = os; held = None; count = b.count; noted = b.noted }
+finish_character false (Some h) b os n i =
+    record { opened = os; held = None; count = b.count; noted = note_in n (char_event (keyboard_of i) (break_table_of i) (held_press h)) b.noted }
 
 -- SCOPE 7.10: a finish takes out the last open message
 unfoldable pub book_finish : Book → Inputs → Option Message → List Arrival → Book

@@ -1,7 +1,6 @@
 -- The events that messages complete: PartialKeyEventInfo::from_message and finalize, and is_current_fake, of tao's keyboard.rs.
 -- Assumes nothing.
-use Rattle.std.specs.Prelude.{ℕ, Bool, true, false, not, ◌&&◌, List, [], ◌∷◌, ◌++◌, eqb}
-use Rattle.std.proofs.Math.Option.{Option, some, none}
+use Rattle.std.specs.Prelude.{ℕ, Bool, true, false, not, ◌&&◌, List, [], ◌∷◌, ◌++◌, eqb, Option, Some, None}
 use Rattle.area.specs.Pick.{pick}
 use Rattle.area.specs.Look.{assoc}
 use Rattle.text.specs.Unicode.{text_of, utf8_of}
@@ -22,7 +21,8 @@ use Rattle.lookup.specs.Maps.{Maps}
 use Rattle.lookup.specs.Block.{maps_of}
 use Rattle.lookup.specs.Layout.{get_key, message_scancode, or_else}
 use Rattle.lookup.specs.Location.{location_of}
-use Rattle.session.specs.Given.{Message, Inputs}
+use Rattle.session.specs.Given.{Inputs}
+use Rattle.session.specs.declared.Message.{Message}
 use Rattle.session.specs.Event.{Event, Info, Held}
 use Rattle.session.specs.declared.ElementState.TheVariants.{Pressed, Released}
 
@@ -57,9 +57,9 @@ plain_key b vkey scancode = get_key b.layout 0 false vkey scancode (key_code_of 
 
 -- SCOPE 3.7: with Control down the codes NumLock and Pause are the keys of those names, as logical key and without modifiers
 unfoldable pub code_as_key : Bool → KeyCode → Option FullKey
-code_as_key false c = none
+code_as_key false c = None
 code_as_key true c =
-    assoc ((code_number code.NumLock, some (named num_lock)) ∷ (code_number code.Pause, some (named pause)) ∷ []) none (code_number c)
+    assoc ((code_number code.NumLock, Some (named num_lock)) ∷ (code_number code.Pause, Some (named pause)) ∷ []) None (code_number c)
 
 unfoldable pub forced_key : Keyboard → ℕ → Option FullKey
 forced_key b scancode = code_as_key (modifiers_in b).control (key_code_of scancode)
@@ -109,14 +109,14 @@ with_units h us = record { info = h.info; vkey = h.vkey; mark = h.mark; units = 
 
 -- SCOPE 3.12: unpaired surrogates give no text, and no unit gives none
 unfoldable pub typed_text : List ℕ → Option (List ℕ)
-typed_text [] = none
+typed_text [] = None
 typed_text (u ∷ us) = text_of (u ∷ us)
 
 -- SCOPE 3.13: a typed text becomes the logical key unless it has several pieces; then the layout's key stands.
 -- SCOPE 3.6: without a text the key is unidentified, with its scan code.
 unfoldable pub typed_key : Bool → FullKey → ℕ → Option (List ℕ) → FullKey
-typed_key several layout scancode none = unidentified (native.Windows scancode)
-typed_key several layout scancode (some t) = pick several layout (character t)
+typed_key several layout scancode None = unidentified (native.Windows scancode)
+typed_key several layout scancode (Some t) = pick several layout (character t)
 
 -- the event of a press, with its text, whether that has several pieces, and the text with all modifiers
 unfoldable pub finalize : Held → Bool → Option (List ℕ) → Option (List ℕ) → Event
@@ -135,11 +135,11 @@ finalize h several text all =
 
 -- the event of a press that no character message follows
 unfoldable pub press_event : Held → Event
-press_event h = finalize h false none none
+press_event h = finalize h false None None
 
 -- the event that a dead character message completes: the text that was typed before it is only that with all modifiers
 unfoldable pub dead_char_event : Held → Event
-dead_char_event h = finalize h false none (typed_text h.units)
+dead_char_event h = finalize h false None (typed_text h.units)
 
 -- SCOPE 3.11: at the last character Control counts, on AltGr layouts only without Alt
 unfoldable pub control_counts : Keyboard → Bool
@@ -153,8 +153,8 @@ last_text b h =
 
 -- SCOPE 3.13: whether a text has several pieces, by the break table
 unfoldable pub several_text : Table → Option (List ℕ) → Bool
-several_text r none = false
-several_text r (some t) = several_in r t
+several_text r None = false
+several_text r (Some t) = several_in r t
 
 -- the event that the last character message completes. SCOPE 3.12: the text with all modifiers is the typed units'
 unfoldable pub char_event : Keyboard → Table → Held → Event
@@ -166,12 +166,12 @@ release_event n =
     record {
       physical_key = key_code_of n.scancode;
       logical_key = n.logical_key;
-      text = none;
+      text = None;
       location = n.location;
       state = Released;
       repeat = n.repeat;
       synthetic = false;
-      text_with_all_modifiers = none;
+      text_with_all_modifiers = None;
       key_without_modifiers = n.key_without_modifiers;
     }
 
@@ -186,5 +186,5 @@ is_control (dead_char c) = false
 
 -- SCOPE 3.8: the AltGr flag, the logical key Control, and the next scan code E038, read from the peeked lParam alone
 unfoldable pub fake : Keyboard → Info → Option Message → Bool
-fake b n none = false
-fake b n (some m) = b.layout.has_alt_graph && (is_control n.logical_key && eqb (ex_scancode_of m.lparam) 0xE038)
+fake b n None = false
+fake b n (Some m) = b.layout.has_alt_graph && (is_control n.logical_key && eqb (ex_scancode_of m.lparam) 0xE038)

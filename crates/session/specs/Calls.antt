@@ -1,13 +1,13 @@
 -- What an answered call does, on sessions: the token, the events handed out, the session after.
 -- Assumes nothing.
-use Rattle.std.specs.Prelude.{ℕ, suc, ◌+◌, Bool, true, false, List, [], ◌∷◌, ◌++◌, eqb, length}
-use Rattle.std.proofs.Math.Option.{Option, some, none}
+use Rattle.std.specs.Prelude.{ℕ, suc, ◌+◌, Bool, true, false, List, [], ◌∷◌, ◌++◌, eqb, length, Option, Some, None}
 use Rattle.area.specs.Pick.{pick}
 use Rattle.area.specs.Look.{assoc}
 use Rattle.text.specs.Message.{char_units}
 use Rattle.segmentation.specs.Table.{Table}
 use Rattle.lookup.specs.LParam.{key_lparam, virtual_key}
-use Rattle.session.specs.Given.{Message, Given, brought, finished, WM_SETFOCUS, WM_KILLFOCUS, WM_KEYDOWN, WM_KEYUP, WM_CHAR, WM_DEADCHAR, WM_SYSKEYDOWN, WM_SYSKEYUP, WM_SYSCHAR, WM_SYSDEADCHAR, WM_QUIT, VK_F4}
+use Rattle.session.specs.Given.{Given, brought, finished, WM_SETFOCUS, WM_KILLFOCUS, WM_KEYDOWN, WM_KEYUP, WM_CHAR, WM_DEADCHAR, WM_SYSKEYDOWN, WM_SYSKEYUP, WM_SYSCHAR, WM_SYSDEADCHAR, WM_QUIT, VK_F4}
+use Rattle.session.specs.declared.Message.{Message}
 use Rattle.session.specs.Event.{Event, Held}
 use Rattle.session.specs.Builder.{Keyboard, keyboard_of, break_table_of, from_message, held_of, with_units, press_event, dead_char_event, char_event, release_event, fake}
 use Rattle.session.specs.Focus.{focus_events}
@@ -39,13 +39,13 @@ pub record Effect : Type 0 where
   pub after : Session
 
 abbrev pub nothing_done : Session → Effect
-nothing_done s = record { token = none; events = []; after = s }
+nothing_done s = record { token = None; events = []; after = s }
 
 -- an unresolved entry at the end, under the next token (add_pending)
 unfoldable pub opening : Session → Wait → Option Held → Effect
 opening s w h =
     record {
-      token = some s.handed;
+      token = Some s.handed;
       events = [];
       after = record { handed = suc s.handed; entries = s.entries ++ (waiting s.handed w ∷ []); held = h };
     }
@@ -57,22 +57,22 @@ numbered t (e ∷ r) = complete t e ∷ numbered (suc t) r
 
 -- SCOPE 4.4: events at the end of the queue, straight out of an empty one (complete_multi)
 unfoldable pub behind : Session → List Event → Option Held → List Entry → Effect
-behind s es h [] = record { token = none; events = es; after = record { handed = s.handed; entries = []; held = h } }
+behind s es h [] = record { token = None; events = es; after = record { handed = s.handed; entries = []; held = h } }
 behind s es h (x ∷ r) =
     record {
-      token = none;
+      token = None;
       events = [];
       after = record { handed = s.handed + length es; entries = (x ∷ r) ++ numbered s.handed es; held = h };
     }
 
 -- SCOPE 3.9: 102 and 106 with no held press do nothing
 unfoldable pub char_opened : Session → Message → Option Held → Effect
-char_opened s m none = nothing_done s
-char_opened s m (some h) = opening s character (some (with_units h (char_units m.wparam)))
+char_opened s m None = nothing_done s
+char_opened s m (Some h) = opening s character (Some (with_units h (char_units m.wparam)))
 
 unfoldable pub dead_char_answered : Session → Option Held → Effect
-dead_char_answered s none = nothing_done s
-dead_char_answered s (some h) = behind s (dead_char_event h ∷ []) none s.entries
+dead_char_answered s None = nothing_done s
+dead_char_answered s (Some h) = behind s (dead_char_event h ∷ []) None s.entries
 
 unfoldable pub message_effect : Session → Keyboard → Message → Sort → Effect
 message_effect s b m key_down = opening s (press (virtual_key m.wparam) (key_lparam m.lparam)) s.held
@@ -87,47 +87,47 @@ message_effect s b m ignored = nothing_done s
 
 -- SCOPE 3.17: a peeked WM_QUIT counts as nothing peeked, whatever its parameters
 unfoldable pub seen : Option Message → Option Message
-seen none = none
-seen (some m) = assoc ((WM_QUIT, none) ∷ []) (some m) m.kind
+seen None = None
+seen (Some m) = assoc ((WM_QUIT, None) ∷ []) (Some m) m.kind
 
 -- SCOPE 3.5: a peeked kind other than 100, 101, 104, 105 makes this press the held one; nothing peeked does not
 unfoldable pub holds : Option Message → Bool
-holds none = false
-holds (some m) = assoc ((WM_KEYDOWN, false) ∷ (WM_KEYUP, false) ∷ (WM_SYSKEYDOWN, false) ∷ (WM_SYSKEYUP, false) ∷ []) true m.kind
+holds None = false
+holds (Some m) = assoc ((WM_KEYDOWN, false) ∷ (WM_KEYUP, false) ∷ (WM_SYSKEYDOWN, false) ∷ (WM_SYSKEYUP, false) ∷ []) true m.kind
 
 -- SCOPE 3.10: where the peeked kind is 102 or 106 more is coming
 unfoldable pub more_coming : Option Message → Bool
-more_coming none = false
-more_coming (some m) = assoc ((WM_CHAR, true) ∷ (WM_SYSCHAR, true) ∷ []) false m.kind
+more_coming None = false
+more_coming (Some m) = assoc ((WM_CHAR, true) ∷ (WM_SYSCHAR, true) ∷ []) false m.kind
 
 -- the event that the finish of a message gives, if any
 unfoldable pub finish_event : Keyboard → Table → Option Held → Wait → Option Message → Option Event
 finish_event b r h (press vkey l) p =
-    pick (holds p) none (pick (fake b (from_message b vkey l) p) none (some (press_event (held_of b vkey l))))
-finish_event b r h (release n) p = pick (fake b n p) none (some (release_event n))
-finish_event b r none character p = none
-finish_event b r (some h) character p = pick (more_coming p) none (some (char_event b r h))
+    pick (holds p) None (pick (fake b (from_message b vkey l) p) None (Some (press_event (held_of b vkey l))))
+finish_event b r h (release n) p = pick (fake b n p) None (Some (release_event n))
+finish_event b r None character p = None
+finish_event b r (Some h) character p = pick (more_coming p) None (Some (char_event b r h))
 
 -- the press that is held after it
 unfoldable pub finish_held : Keyboard → Option Held → Wait → Option Message → Option Held
-finish_held b h (press vkey l) p = pick (holds p) (some (held_of b vkey l)) none
+finish_held b h (press vkey l) p = pick (holds p) (Some (held_of b vkey l)) None
 finish_held b h (release n) p = h
-finish_held b none character p = none
-finish_held b (some h) character p = pick (more_coming p) (some h) none
+finish_held b None character p = None
+finish_held b (Some h) character p = pick (more_coming p) (Some h) None
 
 -- SCOPE 4.1: the search for a token stops at the first entry that carries it
 abbrev pub wait_in : Entry → Option Wait
-wait_in (waiting t w) = some w
-wait_in (complete t e) = none
+wait_in (waiting t w) = Some w
+wait_in (complete t e) = None
 
 unfoldable pub find_wait : ℕ → List Entry → Option Wait
-find_wait t [] = none
+find_wait t [] = None
 find_wait t (x ∷ r) = pick (eqb t (token_of x)) (wait_in x) (find_wait t r)
 
 -- SCOPE 4.2: its entry completed, or dropped where there is no event
 unfoldable pub in_place : ℕ → Option Event → List Entry → List Entry
-in_place t none r = r
-in_place t (some e) r = complete t e ∷ r
+in_place t None r = r
+in_place t (Some e) r = complete t e ∷ r
 
 unfoldable pub resolve : ℕ → Option Event → List Entry → List Entry
 resolve t o [] = []
@@ -147,13 +147,13 @@ drain (complete t e ∷ r) = e ∷ drain r
 -- entry waits. SCOPE 4.5: token numbers restart when the queue empties.
 unfoldable pub resolved : Bool → Session → ℕ → Option Event → Option Held → Effect
 resolved true s t o h =
-    record { token = none; events = drain (resolve t o s.entries); after = record { handed = 0; entries = []; held = h } }
+    record { token = None; events = drain (resolve t o s.entries); after = record { handed = 0; entries = []; held = h } }
 resolved false s t o h =
-    record { token = none; events = []; after = record { handed = s.handed; entries = resolve t o s.entries; held = h } }
+    record { token = None; events = []; after = record { handed = s.handed; entries = resolve t o s.entries; held = h } }
 
 unfoldable pub finish_effect : Session → Keyboard → Table → ℕ → Option Message → Option Wait → Effect
-finish_effect s b r t p none = nothing_done s
-finish_effect s b r t p (some w) =
+finish_effect s b r t p None = nothing_done s
+finish_effect s b r t p (Some w) =
     resolved (is_first t s.entries) s t (finish_event b r s.held w p) (finish_held b s.held w p)
 
 unfoldable pub effect_of : Session → Given → Effect

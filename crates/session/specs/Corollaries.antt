@@ -1,7 +1,6 @@
 -- Two more statements about every run, of the same invariant as demand 3: never late, and no history.
 -- Assumes nothing.
-use Rattle.std.specs.Prelude.{◌≡◌, ℕ, List, [], ◌∷◌, ◌++◌, ltb}
-use Rattle.std.proofs.Math.Option.{Option, some, none}
+use Rattle.std.specs.Prelude.{◌≡◌, ℕ, List, [], ◌∷◌, ◌++◌, ltb, Option, Some, None}
 use Rattle.area.specs.Pick.{pick}
 use Rattle.session.specs.Event.{Event}
 use Rattle.session.specs.Book.{Arrival, Note, held_in}
@@ -9,15 +8,15 @@ use Rattle.session.specs.Run.{Call, State, start, run, CallsInRange}
 
 -- the number of the earliest open message
 unfoldable pub earliest : List Arrival → Option ℕ
-earliest [] = none
-earliest (a ∷ []) = some a.number
+earliest [] = None
+earliest (a ∷ []) = Some a.number
 earliest (a ∷ b ∷ r) = earliest (b ∷ r)
 
 -- the noted events whose number is below it, all of them when nothing is open
 unfoldable pub before : Option ℕ → List Note → List Event
 before o [] = []
-before none (x ∷ r) = x.event ∷ before none r
-before (some n) (x ∷ r) = pick (ltb x.number n) (x.event ∷ []) [] ++ before (some n) r
+before None (x ∷ r) = x.event ∷ before None r
+before (Some n) (x ∷ r) = pick (ltb x.number n) (x.event ∷ []) [] ++ before (Some n) r
 
 -- SCOPE 7.11: an event waits from its noting until a call hands it out; and it waits for nothing but an earlier open message.
 abbrev pub NeverLate : Type 0

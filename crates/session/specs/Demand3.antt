@@ -1,7 +1,6 @@
 -- Demand 3 (SCOPE 1.3), as a statement. proofs/Demand3.antt has its proof, `demand3 : Demand3`.
 -- Assumes nothing.
-use Rattle.std.specs.Prelude.{◌≡◌, ℕ, ◌≤◌, true, List, [], ◌∷◌, map, length}
-use Rattle.std.proofs.Math.Option.{none}
+use Rattle.std.specs.Prelude.{◌≡◌, ℕ, ◌≤◌, true, List, [], ◌∷◌, map, length, None}
 use Rattle.session.specs.Limits.{AREA, KEYS}
 use Rattle.segmentation.specs.Layout.{table_ok}
 use Rattle.lookup.specs.Block.{block_ok}
@@ -55,7 +54,7 @@ pub record Closed (closed end : State) : Type 0 where
   pub no_entry : (decode end.area).entries ≡ []
   pub no-token : (decode end.area).handed ≡ 0
   -- if no press is held either, the session area equals a fresh one in every byte
-  pub as_fresh : end.book.held ≡ none → end.area ≡ fresh_area
+  pub as_fresh : end.book.held ≡ None → end.area ≡ fresh_area
 
 -- Its premises: the blocks are of bytes, which every block that the code is lent is (proofs/Premises.antt), and the closings are what demand 3
 -- says, well-formed, and one for each open message.

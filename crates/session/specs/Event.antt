@@ -1,7 +1,6 @@
 -- A key event and what is kept of one before it is complete: tao's KeyEvent (event.rs) and PartialKeyEventInfo (keyboard.rs).
 -- Assumes nothing.
-use Rattle.std.specs.Prelude.{ℕ, Bool, List}
-use Rattle.std.proofs.Math.Option.{Option}
+use Rattle.std.specs.Prelude.{ℕ, Bool, List, Option}
 use Rattle.keys.specs.Text.{FullKey}
 use Rattle.keys.specs.declared.KeyLocation.{KeyLocation}
 use Rattle.keys.specs.declared.key_code.KeyCode.{KeyCode}

@@ -1,7 +1,6 @@
 -- The events of a focus change: synthesize_kbd_state and create_synthetic of tao's keyboard.rs.
 -- Assumes nothing.
-use Rattle.std.specs.Prelude.{ℕ, zero, suc, ◌+◌, Bool, true, false, not, ◌&&◌, List, [], ◌∷◌, ◌++◌, eqb}
-use Rattle.std.proofs.Math.Option.{Option, none}
+use Rattle.std.specs.Prelude.{ℕ, zero, suc, ◌+◌, Bool, true, false, not, ◌&&◌, List, [], ◌∷◌, ◌++◌, eqb, Option, None}
 use Rattle.area.specs.Pick.{pick}
 use Rattle.area.specs.Look.{assoc}
 use Rattle.keys.specs.Text.{FullKey, to_text}
@@ -48,7 +47,7 @@ focus_key b vk scancode =
 -- SCOPE 3.12: the text, which the text with all modifiers equals, is the logical key's character at gain and none at loss
 unfoldable pub focus_text : ElementState → FullKey → Option (List ℕ)
 focus_text Pressed k = to_text k
-focus_text Released k = none
+focus_text Released k = None
 
 -- SCOPE 3.16: a dead key without modifiers stays dead
 unfoldable pub synthetic_event : Keyboard → ElementState → ℕ → ℕ → Event

@@ -1,13 +1,7 @@
 -- What a call is given beside the two areas. All of it is arbitrary, its sizes too.
 -- Assumes nothing.
-use Rattle.std.specs.Prelude.{ℕ, List}
-use Rattle.std.proofs.Math.Option.{Option}
-
--- a window message: its kind, 64-bit wParam and lParam
-pub record Message : Type 0 where
-  pub kind : ℕ
-  pub wparam : ℕ
-  pub lparam : ℕ
+use Rattle.std.specs.Prelude.{ℕ, List, Option}
+use Rattle.session.specs.declared.Message.{Message}
 
 -- SCOPE 2.2: each half also takes the key state, 256 bytes, a layout block and a break table
 pub record Inputs : Type 0 where

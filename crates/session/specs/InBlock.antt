@@ -1,7 +1,6 @@
 -- What is read from the layout and not written yet: its texts are parts of the block. What completes a held press.
 -- Assumes nothing.
-use Rattle.std.specs.Prelude.{ℕ, ◌≤◌, ◌≡◌, Bool, true, false, List, length}
-use Rattle.std.proofs.Math.Option.{Option}
+use Rattle.std.specs.Prelude.{ℕ, ◌≤◌, ◌≡◌, Bool, true, false, List, length, Option}
 use Rattle.area.specs.Pick.{pick}
 use Rattle.keys.specs.Text.{FullKey, character, unidentified, text_from}
 use Rattle.keys.specs.declared.NativeKeyCode.TheVariants.{Windows}

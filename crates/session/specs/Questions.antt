@@ -1,13 +1,13 @@
 -- The questions that a call is put through (SCOPE 6), each under its number. A question that is not put to a call is passed.
 -- Assumes nothing.
-use Rattle.std.specs.Prelude.{ℕ, ◌+◌, Bool, true, false, ◌&&◌, List, [], ◌∷◌, eqb, ltb, leb, length}
-use Rattle.std.proofs.Math.Option.{Option, some, none}
+use Rattle.std.specs.Prelude.{ℕ, ◌+◌, Bool, true, false, ◌&&◌, List, [], ◌∷◌, eqb, ltb, leb, length, Option, Some, None}
 use Rattle.area.specs.Pick.{pick}
 use Rattle.text.specs.Message.{char_units}
 use Rattle.segmentation.specs.Layout.{table_ok}
 use Rattle.lookup.specs.Block.{block_ok}
 use Rattle.session.specs.Limits.{AREA, KEYS, OPEN_MOST, ENTRIES_MOST, TOKENS_MOST, UNITS_MOST}
-use Rattle.session.specs.Given.{Message, Given, brought, finished, inputs_of}
+use Rattle.session.specs.Given.{Given, brought, finished, inputs_of}
+use Rattle.session.specs.declared.Message.{Message}
 use Rattle.session.specs.Event.{Held}
 use Rattle.session.specs.Focus.{focus_events}
 use Rattle.session.specs.Session.{Entry, waiting, complete, Session, open_count}
@@ -17,8 +17,8 @@ use Rattle.session.specs.Calls.{Sort, key_down, key_up, char, dead_char, ignored
 -- ---- what a message asks for
 
 abbrev pub is_held : Option Held → Bool
-is_held none = false
-is_held (some h) = true
+is_held None = false
+is_held (Some h) = true
 
 -- whether it opens: a character only where a press is held
 unfoldable pub opens : Session → Sort → Bool
@@ -44,27 +44,27 @@ new_entries s b ignored = 0
 
 -- how many units are held with it
 unfoldable pub units_after : Option Held → Message → Sort → ℕ
-units_after none m k = 0
-units_after (some h) m char = length (with_units h (char_units m.wparam)).units
-units_after (some h) m key_down = 0
-units_after (some h) m key_up = 0
-units_after (some h) m dead_char = 0
-units_after (some h) m (focus st) = 0
-units_after (some h) m ignored = 0
+units_after None m k = 0
+units_after (Some h) m char = length (with_units h (char_units m.wparam)).units
+units_after (Some h) m key_down = 0
+units_after (Some h) m key_up = 0
+units_after (Some h) m dead_char = 0
+units_after (Some h) m (focus st) = 0
+units_after (Some h) m ignored = 0
 
 -- the token of the latest open message
 abbrev pub latest : Option ℕ → ℕ → Option ℕ
-latest none t = some t
-latest (some u) t = some u
+latest None t = Some t
+latest (Some u) t = Some u
 
 unfoldable pub last_token : List Entry → Option ℕ
-last_token [] = none
+last_token [] = None
 last_token (complete t e ∷ r) = last_token r
 last_token (waiting t w ∷ r) = latest (last_token r) t
 
 abbrev pub is_token : ℕ → Option ℕ → Bool
-is_token t none = false
-is_token t (some u) = eqb t u
+is_token t None = false
+is_token t (Some u) = eqb t u
 
 -- ---- the questions
 
@@ -116,8 +116,8 @@ question10 s t = is_token t (last_token s.entries)
 -- ---- the first that is failed
 
 unfoldable pub first_no : List (ℕ × Bool) → Option ℕ
-first_no [] = none
-first_no (q ∷ qs) = pick q.1 (first_no qs) (some q.0)
+first_no [] = None
+first_no (q ∷ qs) = pick q.1 (first_no qs) (Some q.0)
 
 -- SCOPE 6.0: 5 to 9 are put to calls that bring a message, 10 to finishes
 unfoldable pub message_questions : Session → Keyboard → Message → Sort → List (ℕ × Bool)

@@ -1,8 +1,8 @@
 -- What a refusal leaves, and what demand 3 has closings for.
 -- Assumes nothing.
-use Rattle.std.specs.Prelude.{◌≡◌, Bool, true, ◌||◌, ℕ, List, [], ◌∷◌, ◌++◌, eqb, length}
-use Rattle.std.proofs.Math.Option.{Option}
-use Rattle.session.specs.Given.{Message, Inputs, finished}
+use Rattle.std.specs.Prelude.{◌≡◌, Bool, true, ◌||◌, ℕ, List, [], ◌∷◌, ◌++◌, eqb, length, Option}
+use Rattle.session.specs.Given.{Inputs, finished}
+use Rattle.session.specs.declared.Message.{Message}
 use Rattle.session.specs.Answers.{Outcome, refused, outcome_of}
 use Rattle.session.specs.Run.{Call, State, Closing, start, next, run, CallsInRange}
 use Rattle.session.specs.Demand3.{WellFormed, Answered}

@@ -1,9 +1,9 @@
 -- A run: calls one after the other, each handed the session area as the one before left it, and the book beside them.
 -- Assumes nothing.
-use Rattle.std.specs.Prelude.{ℕ, true, false, List, [], ◌∷◌, ◌++◌}
-use Rattle.std.proofs.Math.Option.{Option, some, none}
+use Rattle.std.specs.Prelude.{ℕ, true, false, List, [], ◌∷◌, ◌++◌, Option, Some, None}
 use Rattle.area.specs.Bytes.{Bytes}
-use Rattle.session.specs.Given.{Message, Inputs, Given, brought, finished, inputs_of}
+use Rattle.session.specs.Given.{Inputs, Given, brought, finished, inputs_of}
+use Rattle.session.specs.declared.Message.{Message}
 use Rattle.session.specs.Event.{Event}
 use Rattle.session.specs.Area.{decode_answer}
 use Rattle.session.specs.Answers.{Outcome, refused, answered, outcome_of, fresh_area}
@@ -29,8 +29,8 @@ unfoldable pub start : State
 start = record { area = fresh_area; tokens = []; book = empty_book; out = []; outcomes = [] }
 
 abbrev pub pushed : Option ℕ → List ℕ → List ℕ
-pushed none l = l
-pushed (some t) l = t ∷ l
+pushed None l = l
+pushed (Some t) l = t ∷ l
 
 abbrev pub popped : List ℕ → List ℕ
 popped [] = []

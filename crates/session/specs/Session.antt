@@ -1,7 +1,6 @@
 -- What lives between calls: the queue of entries, the tokens handed out, the held press.
 -- Assumes nothing.
-use Rattle.std.specs.Prelude.{ℕ, suc, Bool, true, false, ◌&&◌, List, [], ◌∷◌, eqb, ltb, leb, length}
-use Rattle.std.proofs.Math.Option.{Option, some, none}
+use Rattle.std.specs.Prelude.{ℕ, suc, Bool, true, false, ◌&&◌, List, [], ◌∷◌, eqb, ltb, leb, length, Option, Some, None}
 use Rattle.area.specs.Pick.{pick}
 use Rattle.text.specs.Unicode.{well_formed}
 use Rattle.keys.specs.Key.{key_number, key_fits}
@@ -31,7 +30,7 @@ pub record Session : Type 0 where
 
 -- SCOPE 7.2: nothing open, no entry, no held press, no token handed out
 unfoldable pub fresh_session : Session
-fresh_session = record { handed = 0; entries = []; held = none }
+fresh_session = record { handed = 0; entries = []; held = None }
 
 abbrev pub token_of : Entry → ℕ
 token_of (waiting t w) = t
@@ -58,8 +57,8 @@ first_open handed (waiting t w ∷ r) = true
 first_open handed (complete t e ∷ r) = false
 
 unfoldable pub units_within : Option Held → Bool
-units_within none = true
-units_within (some h) = leb (length h.units) UNITS_MOST
+units_within None = true
+units_within (Some h) = leb (length h.units) UNITS_MOST
 
 -- SCOPE 6.4, but for the ranges
 unfoldable pub in_order : Session → Bool
@@ -73,8 +72,8 @@ unfoldable pub text_fits : ℕ → List ℕ → Bool
 text_fits most t = ltb 0 (length t) && (leb (length t) most && well_formed t)
 
 unfoldable pub opt_text_fits : Option (List ℕ) → Bool
-opt_text_fits none = true
-opt_text_fits (some t) = text_fits TEXT_MOST t
+opt_text_fits None = true
+opt_text_fits (Some t) = text_fits TEXT_MOST t
 
 -- a key of tao's whose text, which only a character has, has at most so many bytes
 unfoldable pub full_key_fits : ℕ → FullKey → Bool
@@ -98,8 +97,8 @@ units_fit [] = true
 units_fit (u ∷ us) = ltb u WORD && units_fit us
 
 unfoldable pub held_fits : Option Held → Bool
-held_fits none = true
-held_fits (some h) = info_fits h.info && (ltb h.vkey WORD && units_fit h.units)
+held_fits None = true
+held_fits (Some h) = info_fits h.info && (ltb h.vkey WORD && units_fit h.units)
 
 unfoldable pub wait_fits : Wait → Bool
 wait_fits (press vkey l) = ltb vkey WORD && ltb l.scancode 256

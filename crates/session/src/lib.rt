@@ -1,5 +1,5 @@
-// What the calls answer, as types: key events, the held press, tokens, message results, refusals. No code runs here;
-// specs/ says what open and finish answer. SCOPE and a number is a clause of docs/SCOPE.md.
+// What the calls are given and what they answer, as types: messages, key events, the held press, tokens, message results, refusals. No code runs
+// here; specs/ says what open and finish answer. SCOPE and a number is a clause of docs/SCOPE.md.
 #![tactic(auto)]
 
 use keys::key_code::KeyCode;
@@ -48,6 +48,40 @@ pub const ENTRIES_AT: usize = 109;
 
 pub const ANSWER_EVENTS_AT: usize = 2;
 
+// ---- what the calls are given
+
+// A window message.
+#[derive(Clone, Copy)]
+pub struct Message {
+    pub kind: u32,
+    pub wparam: u64,
+    pub lparam: u64,
+}
+
+// ---- the kinds of messages that the calls know, by Microsoft's names
+
+pub const WM_SETFOCUS: u32 = 0x007;
+
+pub const WM_KILLFOCUS: u32 = 0x008;
+
+pub const WM_QUIT: u32 = 0x012;
+
+pub const WM_KEYDOWN: u32 = 0x100;
+
+pub const WM_KEYUP: u32 = 0x101;
+
+pub const WM_CHAR: u32 = 0x102;
+
+pub const WM_DEADCHAR: u32 = 0x103;
+
+pub const WM_SYSKEYDOWN: u32 = 0x104;
+
+pub const WM_SYSKEYUP: u32 = 0x105;
+
+pub const WM_SYSCHAR: u32 = 0x106;
+
+pub const WM_SYSDEADCHAR: u32 = 0x107;
+
 // ---- events
 
 // tao's ElementState (event.rs).
@@ -87,7 +121,7 @@ pub struct KeyEvent {
 
 // ---- what completes a held press
 
-// Its text: that of its units, or what a key of the layout gives.
+// Its text: that of its units, or what a key of the layout gives. No Option: the first case is another source of a text, not the lack of one.
 #[derive(Clone, Copy)]
 pub enum LastText {
     Typed,
@@ -104,8 +138,8 @@ pub enum LastKey {
 
 // ---- what the calls answer
 
-// tao's ProcResult (event_loop.rs): what the window procedure returns, an LRESULT or the default procedure's.
-#[derive(Clone, Copy)]
+// tao's ProcResult (event_loop.rs): what the window procedure returns, an LRESULT or the default procedure's. It is tao's own enum, and no Option.
+#[derive(Clone, Copy, PartialEq, Eq)]
 pub enum ProcResult {
     DefWindowProc,
     Value(i64),
@@ -115,7 +149,8 @@ pub enum ProcResult {
 #[derive(Clone, Copy)]
 pub struct PendingMessageToken(pub u32);
 
-// SCOPE 6.1 to 6.11: why a call is refused, in the order of the questions: 11, of the break table, stands behind 3.
+// SCOPE 6.1 to 6.11: why a call is refused, in the order of the questions: 11, of the break table, stands behind 3. An open answers
+// `Result<Option<PendingMessageToken>, Refusal>`, with no token where it opened no message, and a finish `Result<(), Refusal>`.
 #[derive(Clone, Copy)]
 pub enum Refusal {
     AreaSize,
@@ -129,19 +164,4 @@ pub enum Refusal {
     TokensUsed,
     TooManyUnits,
     NotLatest,
-}
-
-// What an open answers.
-#[derive(Clone, Copy)]
-pub enum OpenAnswer {
-    Refused(Refusal),
-    Opened(PendingMessageToken),
-    OpenedNone,
-}
-
-// What a finish answers.
-#[derive(Clone, Copy)]
-pub enum FinishAnswer {
-    Refused(Refusal),
-    Finished,
 }

@@ -1,169 +1,169 @@
-// What the programs that make calls share: numbers read from any bytes, bytes compared and written, what a call said, what they print.
+// What the programs that make calls share: what a host keeps for its calls, numbers read from the front of bytes, files read whole.
 #![tactic(auto)]
 
-use session::{FinishAnswer, OpenAnswer, ProcResult};
-use std::io;
+use message::Opened;
+use session::{
+    ANSWER_EVENT_SIZE, ANSWER_EVENTS_AT, AREA_SIZE, KEY_STATE_SIZE, Message, PendingMessageToken,
+    ProcResult, Refusal,
+};
+use std::io::Read;
+use std::rt::Runtime;
+use std::{fs, io};
 
-// ---- numbers from bytes, with the low byte first; 0 where the bytes end before
+// ---- what a host keeps for its calls
 
-pub fn byte_at(s: &[u8], at: usize) -> u8 {
-    if at < s.len() {
-        return s[at];
-    }
-    0
+#[derive(Drop)]
+pub struct Host<'a> {
+    pub session: [u8; AREA_SIZE],
+    pub answers: [u8; AREA_SIZE],
+    pub state: [u8; KEY_STATE_SIZE],
+    pub block: &'a [u8],
+    pub table: &'a [u8],
 }
 
-pub fn u16_at(s: &[u8], at: usize) -> u16 {
-    if s.len() < 2 {
-        return 0;
+impl<'a> Host<'a> {
+    // A fresh session, and no key down.
+    pub fn new(block: &'a [u8], table: &'a [u8]) -> Host<'a> {
+        let mut host = Host {
+            session: [0; AREA_SIZE],
+            answers: [0; AREA_SIZE],
+            state: [0; KEY_STATE_SIZE],
+            block,
+            table,
+        };
+        host.renew();
+        host
     }
-    if s.len() - 2 < at {
-        return 0;
-    }
-    area::get_u16(s, at)
-}
 
-pub fn u32_at(s: &[u8], at: usize) -> u32 {
-    if s.len() < 4 {
-        return 0;
+    // Begins the session again.
+    pub fn renew(&mut self) {
+        record::write::fresh(&mut self.session);
     }
-    if s.len() - 4 < at {
-        return 0;
-    }
-    area::get_u32(s, at)
-}
 
-pub fn u64_at(s: &[u8], at: usize) -> u64 {
-    if s.len() < 8 {
-        return 0;
+    pub fn open(&mut self, message: Message, res: ProcResult) -> Opened {
+        message::open(
+            &mut self.session,
+            &mut self.answers,
+            &self.state,
+            self.block,
+            self.table,
+            message,
+            res,
+        )
     }
-    if s.len() - 8 < at {
-        return 0;
+
+    // An open by process_message, which is lent the message result.
+    pub fn lend_result(&mut self, message: Message, res: ProcResult) -> Opened {
+        message::process_message::lend_result(
+            &mut self.session,
+            &mut self.answers,
+            &self.state,
+            self.block,
+            self.table,
+            message,
+            res,
+        )
     }
-    area::get_u64(s, at)
-}
 
-// The signed number of 64 bits.
-pub fn signed(v: u64) -> i64 {
-    if v < 0x8000_0000_0000_0000 {
-        return v as i64;
+    pub fn finish(
+        &mut self,
+        token: PendingMessageToken,
+        peeked: Option<Message>,
+    ) -> Result<(), Refusal> {
+        message::finish(
+            &mut self.session,
+            &mut self.answers,
+            &self.state,
+            self.block,
+            self.table,
+            token,
+            peeked,
+        )
     }
-    let above = (0xffff_ffff_ffff_ffff - v) as i64;
-    !above
-}
 
-// ---- bytes compared
-
-// The bits in which two runs of bytes differ anywhere. It has no way out before the end, so that it compiles to wide instructions.
-fn differing_bits(a: &[u8], b: &[u8]) -> u8 {
-    if a.len() != b.len() {
-        return 255;
+    // How many events the last call handed out.
+    pub fn event_count(&self) -> u16 {
+        u16_at(&self.answers, 0)
     }
-    let mut bits: u8 = 0;
-    let mut i: usize = 0;
-    while i < a.len() {
-        bits = bits | (a[i] ^ b[i]);
-        i += 1;
-    }
-    bits
-}
 
-pub fn same(a: &[u8], b: &[u8]) -> bool {
-    differing_bits(a, b) == 0
-}
-
-// The first place at which two runs of bytes differ, or the first's length.
-pub fn first_difference(a: &[u8], b: &[u8]) -> usize {
-    let mut i: usize = 0;
-    while i < a.len() {
-        if a[i] != byte_at(b, i) {
-            return i;
-        }
-        i += 1;
-    }
-    i
-}
-
-// ---- bytes written
-
-pub fn fill(s: &mut [u8], value: u8) {
-    let mut i: usize = 0;
-    while i < s.len() {
-        s[i] = value;
-        i += 1;
-    }
-}
-
-// Copies bytes, if there is room for all.
-pub fn copy(from: &[u8], to: &mut [u8]) {
-    if to.len() < from.len() {
-        return;
-    }
-    let mut i: usize = 0;
-    while i < from.len() {
-        to[i] = from[i];
-        i += 1;
+    // The events that the last call handed out.
+    pub fn events(&self) -> &[[u8; ANSWER_EVENT_SIZE]] {
+        let (events, _) = self.answers[ANSWER_EVENTS_AT..].as_chunks::<ANSWER_EVENT_SIZE>();
+        let count = usize::from(self.event_count()).min(events.len());
+        &events[..count]
     }
 }
 
-// ---- what a call said
+// ---- numbers of areas and files, with the low byte first
 
-// What a call said: 0 refused, 1 opened none or finished, 2 opened; and the refusal's number or the token.
+// The number at a place; 0 where the bytes end before, as in a file that was cut off.
+pub fn u16_at(bytes: &[u8], at: usize) -> u16 {
+    Reader {
+        rest: bytes.get(at..).unwrap_or_default(),
+    }
+    .u16()
+}
+
+// Reads bytes from the front. What they end before is 0 or empty, and nothing is taken for it.
 #[derive(Clone, Copy)]
-pub struct Said {
-    pub what: u8,
-    pub number: u32,
+pub struct Reader<'a> {
+    pub rest: &'a [u8],
 }
 
-pub fn said_by_open(a: OpenAnswer) -> Said {
-    match a {
-        OpenAnswer::Refused(no) => Said {
-            what: 0,
-            number: export::numbers::refusal_number(no),
-        },
-        OpenAnswer::Opened(token) => Said {
-            what: 2,
-            number: token.0,
-        },
-        OpenAnswer::OpenedNone => Said { what: 1, number: 0 },
+impl<'a> Reader<'a> {
+    pub fn slice(&mut self, count: usize) -> &'a [u8] {
+        let Some((front, rest)) = self.rest.split_at_checked(count) else {
+            return &[];
+        };
+        self.rest = rest;
+        front
+    }
+
+    fn array<const N: usize>(&mut self) -> [u8; N] {
+        let Some((front, rest)) = self.rest.split_first_chunk() else {
+            return [0; N];
+        };
+        self.rest = rest;
+        *front
+    }
+
+    pub fn u8(&mut self) -> u8 {
+        u8::from_le_bytes(self.array())
+    }
+
+    pub fn u16(&mut self) -> u16 {
+        u16::from_le_bytes(self.array())
+    }
+
+    pub fn u32(&mut self) -> u32 {
+        u32::from_le_bytes(self.array())
+    }
+
+    pub fn u64(&mut self) -> u64 {
+        u64::from_le_bytes(self.array())
     }
 }
 
-pub fn said_by_finish(a: FinishAnswer) -> Said {
-    match a {
-        FinishAnswer::Refused(no) => Said {
-            what: 0,
-            number: export::numbers::refusal_number(no),
-        },
-        FinishAnswer::Finished => Said { what: 1, number: 0 },
+// ---- files
+
+// What a file has, so many bytes of it at most. Where it does not open, that is printed, and nothing is answered.
+pub fn read_file<R: Runtime>(rt: &R, name: &str, most: u64) -> io::Result<Option<Vec<u8, R::A>>> {
+    match fs::open(rt, name) {
+        Ok(file) => {
+            let mut bytes = Vec::new(rt.alloc());
+            file.take(most).read_to_end(&mut bytes)?;
+            Ok(Some(bytes))
+        }
+        Err(e) => {
+            eprintln!(rt; "{name}: {e}")?;
+            Ok(None)
+        }
     }
 }
 
-pub fn same_result(a: ProcResult, b: ProcResult) -> bool {
-    match a {
-        ProcResult::DefWindowProc => match b {
-            ProcResult::DefWindowProc => true,
-            ProcResult::Value(_) => false,
-        },
-        ProcResult::Value(x) => match b {
-            ProcResult::DefWindowProc => false,
-            ProcResult::Value(y) => x == y,
-        },
-    }
-}
-
-// ---- what they print
-
-pub fn text(rt: &impl Print, t: &[u8]) -> io::Result<()> {
-    rt.write_all(t)
-}
-
-pub fn decimal(rt: &impl Print, n: u64) -> io::Result<()> {
-    print!(rt; "{n}")
-}
-
-// With zeros in front up to so many digits, sixteen at most.
-pub fn hex(rt: &impl Print, n: u64, digits: usize) -> io::Result<()> {
-    let width = digits.min(16);
-    print!(rt; "{n:0width$x}")
+// Standard input, so many bytes of it at most.
+pub fn read_input<R: Runtime>(rt: &R, most: u64) -> io::Result<Vec<u8, R::A>> {
+    let mut bytes = Vec::new(rt.alloc());
+    rt.reader().take(most).read_to_end(&mut bytes)?;
+    Ok(bytes)
 }

@@ -12,532 +12,320 @@
 // Numbers are hexadecimal. The break table of all calls is unicode.breaks, Unicode 15.0's.
 #![tactic(auto)]
 
-use event::peeked::Peeked;
-use lines::{Message, behind, find, message_at, number_at, part};
-use session::{ANSWER_EVENT_SIZE, ANSWER_EVENTS_AT, AREA_SIZE, PendingMessageToken, ProcResult};
-use show::{byte_at, decimal, hex, text, u16_at, u32_at};
-use std::io::Read;
+use export::numbers::refusal_number;
+use lines::Numbers;
+use session::{KEY_TEXT_MOST, Message, PendingMessageToken, ProcResult, Refusal, TEXT_MOST};
+use show::{Host, Reader, read_file, read_input};
+use std::io;
 use std::rt::Runtime;
-use std::{fs, io};
-
-// ---- names: a file of lines, the name of each case of KeyCode, then that of each case of Key
-
-// How many cases KeyCode has.
-const CODES: u64 = 195;
-
-// Prints the line of a number.
-fn show_line(rt: &impl Print, lines: &[u8], number: u64) -> io::Result<()> {
-    let mut at: usize = 0;
-    let mut i: u64 = 0;
-    while i < number {
-        at = behind(lines, find(lines, at, b'\n'));
-        i += 1;
-    }
-    text(rt, part(lines, at, find(lines, at, b'\n')))
-}
-
-fn show_code_name(rt: &impl Print, names: &[u8], place: u8) -> io::Result<()> {
-    show_line(rt, names, place as u64)
-}
-
-fn show_key_name(rt: &impl Print, names: &[u8], place: u16) -> io::Result<()> {
-    show_line(rt, names, CODES + place as u64)
-}
 
 // ---- an event (docs/AREAS.md)
 
-// A part of an event from a place on; empty where it ends before.
-fn from_place(e: &[u8], at: usize) -> &[u8] {
-    if e.len() < at {
-        return &e[0..0];
-    }
-    &e[at..]
+#[derive(Drop)]
+struct Key<'a> {
+    number: u16,
+    second: u8,
+    third: u32,
+    text: &'a [u8],
 }
 
-fn wide(x: u8) -> usize {
-    x as usize
+#[derive(Drop)]
+struct Event<'a> {
+    code_value: u32,
+    code_kind: u8,
+    code: u8,
+    logical_key: Key<'a>,
+    text: &'a [u8],
+    location: u8,
+    released: bool,
+    repeat: bool,
+    synthetic: bool,
+    text_with_all_modifiers: &'a [u8],
+    key_without_modifiers: Key<'a>,
 }
 
-// A text: its length, and its bytes.
-fn show_text(rt: &impl Print, t: &[u8]) -> io::Result<()> {
-    let n = wide(byte_at(t, 0));
-    if n == 0 {
-        return text(rt, b"none");
+// A text: its length, and its bytes in the room that it has.
+fn read_text<'a>(bytes: &mut Reader<'a>, room: usize) -> &'a [u8] {
+    let length = usize::from(bytes.u8());
+    Reader {
+        rest: bytes.slice(room),
     }
-    if t.len() <= n {
-        return Ok(());
-    }
-    text(rt, b"\"")?;
-    text(rt, &t[1..n + 1])?;
-    text(rt, b"\"")
+    .slice(length)
 }
 
-// A key: its number and fields, and its text.
-fn show_key(rt: &impl Print, names: &[u8], k: &[u8]) -> io::Result<()> {
-    let number = u16_at(k, 0);
-    if number == 0 {
-        return show_text(rt, from_place(k, 7));
+fn read_key<'a>(bytes: &mut Reader<'a>, room: usize) -> Key<'a> {
+    Key {
+        number: bytes.u16(),
+        second: bytes.u8(),
+        third: bytes.u32(),
+        text: read_text(bytes, room),
     }
-    show_key_name(rt, names, number)?;
-    if number == 1 {
-        text(rt, b" ")?;
-        decimal(rt, byte_at(k, 2) as u64)?;
-        text(rt, b":")?;
-        hex(rt, u32_at(k, 3) as u64, 1)?;
+}
+
+fn read_event<'a>(mut bytes: Reader<'a>) -> Event<'a> {
+    Event {
+        code_value: bytes.u32(),
+        code_kind: bytes.u8(),
+        code: bytes.u8(),
+        logical_key: read_key(&mut bytes, TEXT_MOST),
+        text: read_text(&mut bytes, TEXT_MOST),
+        location: bytes.u8(),
+        released: bytes.u8() != 0,
+        repeat: bytes.u8() != 0,
+        synthetic: bytes.u8() != 0,
+        text_with_all_modifiers: read_text(&mut bytes, TEXT_MOST),
+        key_without_modifiers: read_key(&mut bytes, KEY_TEXT_MOST),
     }
-    if number == 2 && byte_at(k, 2) == 1 {
-        text(rt, b" ")?;
-        hex(rt, u32_at(k, 3) as u64, 4)?;
+}
+
+// ---- a line of the shift
+
+enum Step<'a> {
+    Comment(&'a [u8]),
+    Layout(u64),
+    Keys(&'a [u8]),
+    Message(Message),
+    Finish(PendingMessageToken, Option<Message>),
+    Card,
+}
+
+fn step_of(line: &[u8]) -> Option<Step<'_>> {
+    match *line.first()? {
+        b'#' => Some(Step::Comment(line)),
+        b'l' => Some(Step::Layout(Numbers::new(line, 6).next().unwrap_or(0))),
+        b'k' => Some(Step::Keys(line)),
+        b'm' => Some(Step::Message(Numbers::new(line, 7).message())),
+        b'f' => Some(finish_of(line)),
+        b'c' => Some(Step::Card),
+        _ => None,
+    }
+}
+
+fn finish_of(line: &[u8]) -> Step<'_> {
+    let mut numbers = Numbers::new(line, 6);
+    let token = (numbers.next().unwrap_or(0) % 0x1_0000_0000) as u32;
+    let peeked = match Numbers::new(numbers.rest, 0).next() {
+        None => None,
+        Some(_) => Some(numbers.message()),
+    };
+    Step::Finish(PendingMessageToken(token), peeked)
+}
+
+// ---- what is printed
+
+// How many cases KeyCode has: `names` has the name of each in a line, then that of each case of Key.
+const CODES: usize = 195;
+
+fn show_name(rt: &impl Print, names: &[u8], place: usize) -> io::Result<()> {
+    rt.write_all(names.split(|b| *b == b'\n').nth(place).unwrap_or_default())
+}
+
+fn show_code(rt: &impl Print, names: &[u8], event: &Event<'_>) -> io::Result<()> {
+    show_name(rt, names, usize::from(event.code))?;
+    if event.code == 0 {
+        print!(rt; " {}:{:x}", event.code_kind, event.code_value)?;
     }
     Ok(())
 }
 
-fn show_code(rt: &impl Print, names: &[u8], e: &[u8]) -> io::Result<()> {
-    let place = byte_at(e, 5);
-    show_code_name(rt, names, place)?;
-    if place == 0 {
-        text(rt, b" ")?;
-        decimal(rt, byte_at(e, 4) as u64)?;
-        text(rt, b":")?;
-        hex(rt, u32_at(e, 0) as u64, 1)?;
+fn show_text(rt: &impl Print, text: &[u8]) -> io::Result<()> {
+    if text.is_empty() {
+        return print!(rt; "none");
     }
-    Ok(())
+    print!(rt; "\"")?;
+    rt.write_all(text)?;
+    print!(rt; "\"")
 }
 
-fn show_location(rt: &impl Print, place: u8) -> io::Result<()> {
-    match place {
-        0 => text(rt, b" standard")?,
-        1 => text(rt, b" left")?,
-        2 => text(rt, b" right")?,
-        _ => text(rt, b" numpad")?,
+fn show_key(rt: &impl Print, names: &[u8], key: &Key<'_>) -> io::Result<()> {
+    if key.number == 0 {
+        return show_text(rt, key.text);
     }
-    Ok(())
-}
-
-fn show_state(rt: &impl Print, e: &[u8]) -> io::Result<()> {
-    if byte_at(e, 112) == 0 {
-        text(rt, b" pressed")?;
-    } else {
-        text(rt, b" released")?;
-    }
-    if byte_at(e, 113) == 1 {
-        text(rt, b" repeat")?;
-    }
-    if byte_at(e, 114) == 1 {
-        text(rt, b" synthetic")?;
-    }
-    Ok(())
-}
-
-fn show_event(rt: &impl Print, names: &[u8], e: &[u8]) -> io::Result<()> {
-    text(rt, b"    ")?;
-    show_code(rt, names, e)?;
-    show_location(rt, byte_at(e, 111))?;
-    show_state(rt, e)?;
-    text(rt, b": key ")?;
-    show_key(rt, names, from_place(e, 6))?;
-    text(rt, b", text ")?;
-    show_text(rt, from_place(e, 62))?;
-    text(rt, b", with all modifiers ")?;
-    show_text(rt, from_place(e, 115))?;
-    text(rt, b", without modifiers ")?;
-    show_key(rt, names, from_place(e, 164))?;
-    text(rt, b"\n")
-}
-
-fn show_events(rt: &impl Print, names: &[u8], answers: &[u8]) -> io::Result<()> {
-    let n = u16_at(answers, 0) as usize;
-    let mut i: usize = 0;
-    while i < n {
-        show_event(
-            rt,
-            names,
-            from_place(answers, ANSWER_EVENTS_AT + ANSWER_EVENT_SIZE * i),
-        )?;
-        i += 1;
-    }
-    Ok(())
-}
-
-// ---- a card: how many digits it has so far, and the digits
-
-// The next card has none yet.
-fn start_card(card: &mut [u8; 256]) {
-    card[0] = 0;
-}
-
-// Puts one more byte behind those of the card; one that has no room is left out.
-fn put_byte(card: &mut [u8; 256], b: u8) {
-    let n = wide(card[0]);
-    if 254 < n {
-        return;
-    }
-    card[n + 1] = b;
-    card[0] = (n + 1) as u8;
-}
-
-// The text of a press goes to the card, unless the focus brought it: that key was typed before.
-fn take_text(card: &mut [u8; 256], e: &[u8]) {
-    if byte_at(e, 112) != 0 || byte_at(e, 114) != 0 {
-        return;
-    }
-    let t = from_place(e, 62);
-    let n = wide(byte_at(t, 0));
-    let mut i: usize = 0;
-    while i < n {
-        put_byte(card, byte_at(t, i + 1));
-        i += 1;
+    show_name(rt, names, CODES + usize::from(key.number))?;
+    match (key.number, key.second) {
+        (1, kind) => print!(rt; " {kind}:{:x}", key.third),
+        (2, 1) => print!(rt; " {:04x}", key.third),
+        _ => Ok(()),
     }
 }
 
-fn take_texts(card: &mut [u8; 256], answers: &[u8]) {
-    let n = u16_at(answers, 0) as usize;
-    let mut i: usize = 0;
-    while i < n {
-        take_text(
-            card,
-            from_place(answers, ANSWER_EVENTS_AT + ANSWER_EVENT_SIZE * i),
-        );
-        i += 1;
+fn location_name(location: u8) -> &'static str {
+    match location {
+        0 => "standard",
+        1 => "left",
+        2 => "right",
+        _ => "numpad",
     }
 }
 
-fn show_card(rt: &impl Print, card: &[u8]) -> io::Result<()> {
-    text(rt, b"card ")?;
-    show_text(rt, card)?;
-    text(rt, b"\n")
+fn show_event(rt: &impl Print, names: &[u8], event: &Event<'_>) -> io::Result<()> {
+    print!(rt; "    ")?;
+    show_code(rt, names, event)?;
+    print!(rt;
+        " {} {}{}{}: key ",
+        location_name(event.location),
+        if event.released {
+            "released"
+        } else {
+            "pressed"
+        },
+        if event.repeat { " repeat" } else { "" },
+        if event.synthetic { " synthetic" } else { "" }
+    )?;
+    show_key(rt, names, &event.logical_key)?;
+    print!(rt; ", text ")?;
+    show_text(rt, event.text)?;
+    print!(rt; ", with all modifiers ")?;
+    show_text(rt, event.text_with_all_modifiers)?;
+    print!(rt; ", without modifiers ")?;
+    show_key(rt, names, &event.key_without_modifiers)?;
+    println!(rt)
 }
 
-// ---- calls
-
-fn show_result(rt: &impl Print, r: ProcResult) -> io::Result<()> {
-    match r {
-        ProcResult::DefWindowProc => text(rt, b", default procedure\n")?,
-        ProcResult::Value(v) => {
-            if v == 0 {
-                text(rt, b", result 0\n")?;
-            } else {
-                text(rt, b", another result\n")?;
-            }
-        }
-    }
-    Ok(())
-}
-
-fn show_refused(rt: &impl Print, number: u32) -> io::Result<()> {
-    text(rt, b": refused ")?;
-    decimal(rt, number as u64)?;
-    text(rt, b"\n")
-}
-
-fn show_message(rt: &impl Print, m: Message) -> io::Result<()> {
-    hex(rt, m.kind as u64, 1)?;
-    text(rt, b" ")?;
-    hex(rt, m.wparam, 2)?;
-    text(rt, b" ")?;
-    hex(rt, m.lparam, 8)
-}
-
-// What a call handed out: shown, and taken to the card.
-fn hand_out(rt: &impl Print, names: &[u8], answers: &[u8], card: &mut [u8; 256]) -> io::Result<()> {
-    show_events(rt, names, answers)?;
-    take_texts(card, answers);
-    Ok(())
-}
-
-// Brings a message, and shows the token that it opened.
-fn bring(
-    rt: &impl Print,
-    names: &[u8],
-    session: &mut [u8; AREA_SIZE],
-    answers: &mut [u8; AREA_SIZE],
-    card: &mut [u8; 256],
-    state: &[u8; 256],
-    block: &[u8],
-    table: &[u8],
-    m: Message,
-) -> io::Result<()> {
-    text(rt, b"message ")?;
-    show_message(rt, m)?;
-    let lent = ProcResult::DefWindowProc;
-    let kind = m.kind;
-    let o = message::open(
-        session, answers, state, block, table, kind, m.wparam, m.lparam, lent,
-    );
-    let a = o.answer;
-    let s = show::said_by_open(a);
-    if s.what == 0 {
-        return show_refused(rt, s.number);
-    }
-    if s.what == 1 {
-        text(rt, b": opens none")?;
-    } else {
-        text(rt, b": token ")?;
-        hex(rt, s.number as u64, 1)?;
-    }
-    let result = o.result;
-    show_result(rt, result)?;
-    hand_out(rt, names, answers, card)
-}
-
-fn show_peeked(rt: &impl Print, p: Peeked) -> io::Result<()> {
-    text(rt, b", peeked ")?;
-    match p {
-        Peeked::Nothing => text(rt, b"nothing")?,
-        Peeked::Message(kind, wparam, lparam) => show_message(
-            rt,
-            Message {
-                kind,
-                wparam,
-                lparam,
-            },
-        )?,
-    }
-    Ok(())
-}
-
-// Finishes the message of a token.
-fn end(
-    rt: &impl Print,
-    names: &[u8],
-    session: &mut [u8; AREA_SIZE],
-    answers: &mut [u8; AREA_SIZE],
-    card: &mut [u8; 256],
-    state: &[u8; 256],
-    block: &[u8],
-    table: &[u8],
-    token: u32,
-    peeked: Peeked,
-) -> io::Result<()> {
-    text(rt, b"finish ")?;
-    hex(rt, token as u64, 1)?;
-    show_peeked(rt, peeked)?;
-    let t = PendingMessageToken(token);
-    let a = message::finish(session, answers, state, block, table, t, peeked);
-    let s = show::said_by_finish(a);
-    if s.what == 0 {
-        return show_refused(rt, s.number);
-    }
-    text(rt, b"\n")?;
-    hand_out(rt, names, answers, card)
-}
-
-// ---- a line read
-
-fn peeked_at(line: &[u8], from: usize) -> Peeked {
-    let kind = number_at(line, from);
-    if !kind.found {
-        return Peeked::Nothing;
-    }
-    let m = message_at(line, from);
-    Peeked::Message(m.kind, m.wparam, m.lparam)
-}
-
-// ---- the shift
-
-// A line that makes a call.
-fn make_call(
-    rt: &impl Print,
-    names: &[u8],
-    session: &mut [u8; AREA_SIZE],
-    answers: &mut [u8; AREA_SIZE],
-    card: &mut [u8; 256],
-    state: &[u8; 256],
-    block: &[u8],
-    table: &[u8],
-    line: &[u8],
-) -> io::Result<()> {
-    if byte_at(line, 0) == b'm' {
-        bring(
-            rt,
-            names,
-            session,
-            answers,
-            card,
-            state,
-            block,
-            table,
-            message_at(line, 7),
-        )?;
-        return Ok(());
-    }
-    let t = number_at(line, 6);
-    let token = (t.value % 0x1_0000_0000) as u32;
-    let peeked = peeked_at(line, t.next);
-    end(
-        rt, names, session, answers, card, state, block, table, token, peeked,
+fn show_message(rt: &impl Print, message: Message) -> io::Result<()> {
+    print!(rt;
+        "{:x} {:02x} {:08x}",
+        message.kind, message.wparam, message.lparam
     )
 }
 
-// A line that makes no call.
-fn do_line(
-    rt: &impl Print,
-    card: &mut [u8; 256],
-    state: &mut [u8; 256],
-    line: &[u8],
-) -> io::Result<()> {
-    let what = byte_at(line, 0);
-    if what == b'#' {
-        text(rt, line)?;
-        text(rt, b"\n")?;
-    }
-    if what == b'k' {
-        lines::set_keys(line, state);
-    }
-    if what == b'c' {
-        show_card(rt, card)?;
-        start_card(card);
-    }
-    Ok(())
-}
+// ---- the station
 
-// The layout that a line names, or the one before.
-fn layout_of(line: &[u8], before: u64) -> u64 {
-    if byte_at(line, 0) == b'l' {
-        let n = number_at(line, 6);
-        return n.value;
-    }
-    before
-}
+// How many bytes a card has room for; one that has none is left out.
+const CARD_MOST: usize = 255;
 
-fn makes_call(line: &[u8]) -> bool {
-    let what = byte_at(line, 0);
-    what == b'm' || what == b'f'
-}
-
-// The block of a layout.
-fn block_of<'a>(layout: u64, us: &'a [u8], flagged: &'a [u8], accent: &'a [u8]) -> &'a [u8] {
-    if layout == 0 {
-        return us;
-    }
-    if layout == 1 {
-        return flagged;
-    }
-    accent
-}
-
-fn shift<'a>(
-    rt: &impl Print,
-    names: &[u8],
+#[derive(Drop)]
+struct Station<'a, R: Runtime> {
+    rt: &'a R,
+    names: &'a [u8],
     us: &'a [u8],
-    flagged: &'a [u8],
+    us_with_alt_graph: &'a [u8],
     accent: &'a [u8],
-    table: &[u8],
-    input: &[u8],
-) -> io::Result<()> {
-    let mut session = [0u8; AREA_SIZE];
-    let mut answers = [0u8; AREA_SIZE];
-    let mut card = [0u8; 256];
-    let mut state = [0u8; 256];
-    let mut layout: u64 = 0;
-    let mut at: usize = 0;
-    let mut turn: usize = 0;
-    record::write::fresh(&mut session);
-    while turn < input.len() {
-        let to = find(input, at, b'\n');
-        let line = part(input, at, to);
-        layout = layout_of(line, layout);
-        do_line(rt, &mut card, &mut state, line)?;
-        if makes_call(line) {
-            let block = block_of(layout, us, flagged, accent);
-            make_call(
-                rt,
-                names,
-                &mut session,
-                &mut answers,
-                &mut card,
-                &state,
-                block,
-                table,
-                line,
-            )?;
+    host: Host<'a>,
+    card: Vec<u8, R::A>,
+}
+
+impl<'a, R: Runtime> Station<'a, R> {
+    fn make_step(&mut self, step: Step<'_>) -> io::Result<()> {
+        match step {
+            Step::Comment(line) => {
+                self.rt.write_all(line)?;
+                println!(self.rt)
+            }
+            Step::Layout(layout) => {
+                self.host.block = match layout {
+                    0 => self.us,
+                    1 => self.us_with_alt_graph,
+                    _ => self.accent,
+                };
+                Ok(())
+            }
+            Step::Keys(line) => {
+                lines::set_keys(line, &mut self.host.state);
+                Ok(())
+            }
+            Step::Message(message) => self.open(message),
+            Step::Finish(token, peeked) => self.finish(token, peeked),
+            Step::Card => self.show_card(),
         }
-        at = behind(input, to);
-        turn += 1;
     }
-    Ok(())
+
+    fn open(&mut self, message: Message) -> io::Result<()> {
+        print!(self.rt; "message ")?;
+        show_message(self.rt, message)?;
+        let opened = self.host.open(message, ProcResult::DefWindowProc);
+        match opened.answer {
+            Err(no) => return self.show_refused(no),
+            Ok(None) => print!(self.rt; ": opens none")?,
+            Ok(Some(token)) => print!(self.rt; ": token {:x}", token.0)?,
+        }
+        match opened.result {
+            ProcResult::DefWindowProc => println!(self.rt; ", default procedure")?,
+            ProcResult::Value(0) => println!(self.rt; ", result 0")?,
+            ProcResult::Value(_) => println!(self.rt; ", another result")?,
+        }
+        self.hand_out()
+    }
+
+    fn finish(&mut self, token: PendingMessageToken, peeked: Option<Message>) -> io::Result<()> {
+        print!(self.rt; "finish {:x}, peeked ", token.0)?;
+        match peeked {
+            None => print!(self.rt; "nothing")?,
+            Some(message) => show_message(self.rt, message)?,
+        }
+        match self.host.finish(token, peeked) {
+            Err(no) => self.show_refused(no),
+            Ok(()) => {
+                println!(self.rt)?;
+                self.hand_out()
+            }
+        }
+    }
+
+    fn show_refused(&self, no: Refusal) -> io::Result<()> {
+        println!(self.rt; ": refused {}", refusal_number(no))
+    }
+
+    // What a call handed out: shown, and taken to the card.
+    fn hand_out(&mut self) -> io::Result<()> {
+        for bytes in self.host.events() {
+            let event = read_event(Reader { rest: bytes });
+            show_event(self.rt, self.names, &event)?;
+            // A press that the focus brought was typed before.
+            if !event.released && !event.synthetic {
+                let room = CARD_MOST.saturating_sub(self.card.len());
+                self.card
+                    .extend_from_slice(&event.text[..event.text.len().min(room)])?;
+            }
+        }
+        Ok(())
+    }
+
+    // Shows the card, and starts the next one.
+    fn show_card(&mut self) -> io::Result<()> {
+        print!(self.rt; "card ")?;
+        show_text(self.rt, &self.card)?;
+        println!(self.rt)?;
+        self.card.clear();
+        Ok(())
+    }
 }
 
 // ---- the files
 
-fn with_table<'a>(
-    rt: &impl Runtime,
-    names: &[u8],
-    us: &'a [u8],
-    flagged: &'a [u8],
-    accent: &'a [u8],
-    table: &[u8],
-) -> io::Result<()> {
-    let mut space = Vec::new(rt.alloc());
-    rt.reader().take(65536).read_to_end(&mut space)?;
-    shift(rt, names, us, flagged, accent, table, space.as_slice())
-}
-
-fn with_accent<'a>(
-    rt: &impl Runtime,
-    names: &[u8],
-    us: &'a [u8],
-    flagged: &'a [u8],
-    accent: &'a [u8],
-) -> io::Result<()> {
-    let file = match fs::open(rt, "unicode.breaks") {
-        Ok(file) => file,
-        Err(e) => return eprintln!(rt; "unicode.breaks: {e}"),
-    };
-    let mut space = Vec::new(rt.alloc());
-    file.take(65536).read_to_end(&mut space)?;
-    with_table(rt, names, us, flagged, accent, space.as_slice())
-}
-
-fn with_flagged<'a>(
-    rt: &impl Runtime,
-    names: &[u8],
-    us: &'a [u8],
-    flagged: &'a [u8],
-) -> io::Result<()> {
-    let file = match fs::open(rt, "accent.block") {
-        Ok(file) => file,
-        Err(e) => return eprintln!(rt; "accent.block: {e}"),
-    };
-    let mut space = Vec::new(rt.alloc());
-    file.take(65536).read_to_end(&mut space)?;
-    with_accent(rt, names, us, flagged, space.as_slice())
-}
-
-// Sets the AltGr flag of a block.
-fn set_flag(block: &mut [u8]) {
-    if 0 < block.len() {
-        block[0] = 1;
-    }
-}
-
-fn with_us(rt: &impl Runtime, names: &[u8], us: &[u8]) -> io::Result<()> {
-    let mut space = [0u8; 65536];
-    if space.len() < us.len() {
-        return Ok(());
-    }
-    show::copy(us, &mut space);
-    set_flag(&mut space);
-    let n = us.len();
-    with_flagged(rt, names, us, &space[0..n])
-}
-
-fn with_names(rt: &impl Runtime, names: &[u8]) -> io::Result<()> {
-    let file = match fs::open(rt, "us.block") {
-        Ok(file) => file,
-        Err(e) => return eprintln!(rt; "us.block: {e}"),
-    };
-    let mut space = Vec::new(rt.alloc());
-    file.take(65536).read_to_end(&mut space)?;
-    with_us(rt, names, space.as_slice())
-}
+const FILE_MOST: u64 = 65536;
 
 fn main(rt: HostRuntime) -> io::Result<()> {
-    let file = match fs::open(&rt, "names") {
-        Ok(file) => file,
-        Err(e) => return eprintln!(rt; "names: {e}"),
+    let Some(names) = read_file(&rt, "names", FILE_MOST)? else {
+        return Ok(());
     };
-    let mut space = Vec::new(rt.alloc());
-    file.take(65536).read_to_end(&mut space)?;
-    with_names(&rt, space.as_slice())
+    let Some(us) = read_file(&rt, "us.block", FILE_MOST)? else {
+        return Ok(());
+    };
+    let Some(accent) = read_file(&rt, "accent.block", FILE_MOST)? else {
+        return Ok(());
+    };
+    let Some(table) = read_file(&rt, "unicode.breaks", FILE_MOST)? else {
+        return Ok(());
+    };
+    let input = read_input(&rt, FILE_MOST)?;
+    let mut us_with_alt_graph = us.clone()?;
+    if let Some(flag) = us_with_alt_graph.first_mut() {
+        *flag = 1;
+    }
+    let mut station = Station {
+        rt: &rt,
+        names: &names,
+        us: &us,
+        us_with_alt_graph: &us_with_alt_graph,
+        accent: &accent,
+        host: Host::new(&us, &table),
+        card: Vec::new(rt.alloc()),
+    };
+    for line in input.split(|b| *b == b'\n') {
+        if let Some(step) = step_of(line) {
+            station.make_step(step)?;
+        }
+    }
+    Ok(())
 }

@@ -6,18 +6,18 @@ use Prim.Native.Nat.{ℕ, zero, suc, ◌+◌, ◌-◌, ◌*◌, ◌/◌, ◌%◌
 use native.Mathlib.Numerals.{towards_suc}
 use native.Mathlib.Omega.{arith}
 use lib.ListN.{length, take, drop, get_or, set, replicate, length-drop, length-replicate, take-append-drop}
-use lib.Seq.{get_or-drop, drop-drop, take-length, length-take-le}
+use lib.Seq.{take-length, length-take-le}
 use Rattle.area.specs.Bytes.{num}
 use Rattle.area.specs.Splice.{splice, padded}
 use Rattle.area.proofs.Bytes.{num-drop}
-use Rattle.area.proofs.Splice.{splice-before, merge, over}
-use Rattle.text.specs.declared.Step.TheVariants.{Bad, Scalar}
-use Rattle.text.specs.Unicode.{utf16_of, utf8_of, unit_step, utf16_step, text_of}
+use Rattle.area.proofs.Splice.{merge, over}
+use Rattle.std.specs.Prelude.{None, Some}
+use Rattle.std.specs.Bool.{then_some}
+use Rattle.text.specs.Unicode.{within, utf16_of, utf8_of, unit_step, utf16_step, text_of}
 use Rattle.text.specs.Placed.{units_at, bytes_in, Put}
-use Rattle.text.proofs.Tests.{either, inside, under}
-use Rattle.text.proofs.Tests as tests
+use Rattle.text.proofs.Tests.{either, then_pick}
 use Rattle.text.proofs.Utf8Form.{one_byte, two_bytes, three_bytes, four_bytes}
-use Rattle.text.proofs.Utf16Form.{unit_low, unit_pair, unit_half, unit_lone, unit_high, knows16}
+use Rattle.text.proofs.Utf16Form.{unit_low, unit_pair, unit_lone, unit_high, knows16}
 use Rattle.text.proofs.Steps.{past_step, at16, high_last}
 
 -- ---- the bytes of a scalar value, written one by one
@@ -63,24 +63,12 @@ nth (suc n) (suc i) l h =
     let e : 2 + 2 * i ≡ 2 * suc i = omega arith in
     nth n i (drop 2 l) (omega arith) ∙ num-drop 2 (2 * i) 2 l ∙ ap (λ (k : ℕ). num 2 k l) e
 
--- units before a write are as they were
-pub units-before :
-    (n from at : ℕ) (bs x : List ℕ) → from + 2 * n ≤ at → units_at n (drop from (splice at bs x)) ≡ units_at n (drop from x)
-unfolding units_at num
-units-before zero from at bs x h = refl
-units-before (suc n) from at bs x h =
-    let low : get_or (drop from (splice at bs x)) 0 0 ≡ get_or (drop from x) 0 0 =
-    get_or-drop from (splice at bs x) 0 0 ∙ splice-before at bs x (from + 0) (omega arith) ∙ sym (get_or-drop from x 0 0) in
-    let high : get_or (drop from (splice at bs x)) 1 0 ≡ get_or (drop from x) 1 0 =
-    get_or-drop from (splice at bs x) 1 0 ∙ splice-before at bs x (from + 1) (omega arith) ∙ sym (get_or-drop from x 1 0) in
-    rw (low, high, drop-drop 2 from (splice at bs x), drop-drop 2 from x, units-before n (from + 2) at bs x (omega arith))
-
 -- ---- the step at unit i
 module _ (n from i : ℕ) (x : List ℕ) where
   abbrev us : List ℕ
   us = units_at n (drop from x)
 
-  pub past_units : n ≤ i → Bad ≡ utf16_step (drop i us)
+  pub past_units : n ≤ i → None ≡ utf16_step (drop i us)
   past_units h = past_step us i utf16_of utf16_step knows16 (omega (arith, units-count n (drop from x)))
 
   module _ (u : ℕ) (e : u ≡ num 2 (from + 2 * i) x) (h : i < n) where
@@ -91,16 +79,16 @@ module _ (n from i : ℕ) (x : List ℕ) where
     step_there =
         at16 us i (omega (arith, units-count n (drop from x))) ∙ ap (λ (k : ℕ). unit_step k (get_or us (i + 1) 0)) there
 
-    pub step_low : u < 0xD800 → Scalar u 1 ≡ utf16_step (drop i us)
+    pub step_low : u < 0xD800 → Some (u, 1) ≡ utf16_step (drop i us)
     step_low a = sym (step_there ∙ unit_low u (get_or us (i + 1) 0) a)
 
-    pub step_high : 0xE000 ≤ u → u < 0x10000 → Scalar u 1 ≡ utf16_step (drop i us)
+    pub step_high : 0xE000 ≤ u → u < 0x10000 → Some (u, 1) ≡ utf16_step (drop i us)
     step_high a b = sym (step_there ∙ unit_high u (get_or us (i + 1) 0) a b)
 
-    pub step_lone : 0xDC00 ≤ u → u < 0xE000 → Bad ≡ utf16_step (drop i us)
+    pub step_lone : 0xDC00 ≤ u → u < 0xE000 → None ≡ utf16_step (drop i us)
     step_lone a b = sym (step_there ∙ unit_lone u (get_or us (i + 1) 0) a b)
 
-    pub step_last : n - i < 2 → 0xD800 ≤ u → u < 0xDC00 → Bad ≡ utf16_step (drop i us)
+    pub step_last : n - i < 2 → 0xD800 ≤ u → u < 0xDC00 → None ≡ utf16_step (drop i us)
     step_last k a b =
         let l = units-count n (drop from x) in
         let t = there in
@@ -114,14 +102,9 @@ module _ (n from i : ℕ) (x : List ℕ) where
           ∙ ap (λ (w : ℕ). unit_step u w)
           (nth n (i + 1) (drop from x) k ∙ num-drop 2 (2 * (i + 1)) from x ∙ ap (λ (w : ℕ). num 2 w x) p ∙ sym f)
 
-      pub step_under : v < 0xDC00 → Bad ≡ utf16_step (drop i us)
-      step_under q = sym (two_there ∙ unit_half u v a b (under 0xDC00 0xDFFF v q))
-
-      pub step_over : 0xE000 ≤ v → Bad ≡ utf16_step (drop i us)
-      step_over q = sym (two_there ∙ unit_half u v a b (tests.over 0xDC00 0xDFFF v (omega arith)))
-
-      pub step_pair : 0xDC00 ≤ v → v < 0xE000 → Scalar (0x10000 + u % 0x400 * 0x400 + v % 0x400) 2 ≡ utf16_step (drop i us)
-      step_pair q r = sym (two_there ∙ unit_pair u v a b (inside 0xDC00 0xDFFF v q (omega arith)))
+      pub step_pair :
+          then_some (within 0xDC00 0xDFFF v) (0x10000 + u % 0x400 * 0x400 + v % 0x400, 2) ≡ utf16_step (drop i us)
+      step_pair = then_pick (within 0xDC00 0xDFFF v) _ ∙ sym (two_there ∙ unit_pair u v a b)
 
 -- ---- what a caller learns of a text that is put
 module _ (us : List ℕ) (at : ℕ) (x y : List ℕ) (r : ℕ) (p : Put us at x y r) where

@@ -1,7 +1,6 @@
 -- UTF-16 units as they stand in an area, and their text written into one.
 -- Assumes nothing.
-use Rattle.std.specs.Prelude.{◌≡◌, List, [], ◌∷◌, ℕ, zero, suc, ◌≤◌, ◌<◌, length, drop}
-use Rattle.std.proofs.Math.Option.{Option, none, some}
+use Rattle.std.specs.Prelude.{◌≡◌, List, [], ◌∷◌, ℕ, zero, suc, ◌≤◌, ◌<◌, length, drop, Option, None, Some}
 use Rattle.area.specs.Bytes.{num}
 use Rattle.area.specs.Splice.{splice}
 use Rattle.text.specs.Unicode.{text_of}
@@ -13,8 +12,8 @@ units_at (suc n) l = num 2 0 l ∷ units_at n (drop 2 l)
 
 -- a text's bytes; of none no byte
 abbrev pub bytes_in : Option (List ℕ) → List ℕ
-bytes_in none = []
-bytes_in (some t) = t
+bytes_in None = []
+bytes_in (Some t) = t
 
 -- y is x with the text of units us written over it from `at`, and r is the text's length. Where they have none, r is 0, and
 -- what stands there is the text of those before the unpaired surrogate
@@ -24,4 +23,4 @@ pub record Put (us : List ℕ) (at : ℕ) (x y : List ℕ) (r : ℕ) : Type 0 wh
   pub within : r ≤ length bytes
   pub stands : y ≡ splice at bytes x
   pub count : r ≡ length (bytes_in (text_of us))
-  pub whole : 0 < r → text_of us ≡ some bytes
+  pub whole : 0 < r → text_of us ≡ Some bytes

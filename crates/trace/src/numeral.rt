@@ -3,32 +3,31 @@ ghost use Rattle.std.specs.Prelude.{◌≡◌, ◌+◌, ◌≤◌, ◌<◌, leng
 ghost use Rattle.area.specs.Splice.{splice};
 ghost use Rattle.trace.specs.Numeral.{glyph, numeral};
 
-// The code of a digit.
+// The code of a digit; std's from_digit gives a char.
+#[tactic(auto, unfolding(crate::specs::Numeral::glyph))]
 pub(crate) fn glyph_of(d: u64) -> u8
     requires { d < 16 }
     ensures { result ≡ glyph d }
 {
-    if d < 10 {
-        return (48 + d) as u8;
-    }
-    (87 + d) as u8
+    let d = d as u8;
+    if d < 10 { b'0' + d } else { b'a' - 10 + d }
 }
 
-// How many digits a number has.
+// How many digits a number has. Nothing is counted up to an end: the number itself falls.
 pub(crate) fn width_of(base: u64, v: u64) -> usize
     requires { (1 < base) × (base ≤ 16) }
     ensures { result ≡ length (numeral base v) }
 {
     let mut rest = v;
-    let mut k: usize = 1;
+    let mut k = 1;
     while base <= rest {
-        rest = rest / base;
+        rest /= base;
         k += 1;
     }
     k
 }
 
-// Writes a number of k digits.
+// Writes a number of k digits. No `for` over the k places: what is left behind the first digit is 0, which is a digit more than is left to write.
 pub(crate) fn put_digits(out: &mut [u8], at: usize, base: u64, v: u64, k: usize)
     requires { (1 < base) × (base ≤ 16) × (k ≡ length (numeral base v)) × (at + k ≤ length out.old) }
     ensures { out.new ≡ splice at (numeral base v) out.old }
@@ -38,7 +37,7 @@ pub(crate) fn put_digits(out: &mut [u8], at: usize, base: u64, v: u64, k: usize)
     while base <= rest {
         i -= 1;
         out[at + i] = glyph_of(rest % base);
-        rest = rest / base;
+        rest /= base;
     }
     out[at] = glyph_of(rest);
 }

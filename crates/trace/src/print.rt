@@ -1,108 +1,112 @@
-// The lines that a replay prints, written into a lent buffer. Each function gives the place behind what it wrote.
+// The lines that a replay prints, written into a lent buffer.
 ghost use Rattle.std.specs.Prelude.{◌≡◌, [], ◌∷◌, ◌+◌, ◌≤◌, ◌<◌, length};
 ghost use Rattle.trace.specs.Wrote.{Wrote};
 ghost use Rattle.session.specs.Limits.{TEXT_MOST};
 ghost use Rattle.trace.specs.Lines.{FIELD_MOST, HEAD_MOST, MARKS_MOST, TEXT_PART_MOST, EVENT_LINE_MOST, REFUSAL_LINE_MOST, field, pairs, event_head, event_marks, event_text, event_line, refusal_line};
 
-// A byte.
-fn put_byte(out: &mut [u8], at: usize, b: u8) -> usize
-    requires { at < length out.old }
-    ensures { Wrote at (b ∷ []) out.old out.new result }
-{
-    out[at] = b;
-    at + 1
+use crate::numeral::{glyph_of, put_digits, width_of};
+
+// A lent buffer, and the place behind what is written.
+#[derive(Drop)]
+pub struct Out<'a> {
+    pub bytes: &'a mut [u8],
+    pub at: usize,
 }
 
-// A separator and a number.
-fn put_field(out: &mut [u8], at: usize, base: u64, v: u64) -> usize
-    requires { (10 ≤ base) × (base ≤ 16) × (at + FIELD_MOST ≤ length out.old) }
-    ensures wrote { Wrote at (field base v) out.old out.new result }
-    ensures upper_bound { result ≤ at + FIELD_MOST }
-{
-    out[at] = b',';
-    let k = crate::numeral::width_of(base, v);
-    crate::numeral::put_digits(out, at + 1, base, v, k);
-    at + 1 + k
-}
-
-// Two digits a byte.
-fn put_pairs(out: &mut [u8], from: usize, text: &[u8]) -> usize
-    requires { from + length text.now + length text.now ≤ length out.old }
-    ensures wrote { Wrote from (pairs text.now) out.old out.new result }
-    ensures value { result ≡ from + length text.now + length text.now }
-{
-    let mut i: usize = 0;
-    let mut at = from;
-    while i < text.len() {
-        let b = text[i] as u64;
-        at = put_byte(out, at, crate::numeral::glyph_of(b / 16));
-        at = put_byte(out, at, crate::numeral::glyph_of(b % 16));
-        i += 1;
+impl<'a> Out<'a> {
+    fn put_byte(&mut self, b: u8)
+        requires { self.old.at < length self.old.bytes.now }
+        ensures { Wrote self.old.at (b ∷ []) self.old.bytes.now self.new.bytes.now self.new.at }
+    {
+        self.bytes[self.at] = b;
+        self.at += 1;
     }
-    at
-}
 
-// `E`, key and location.
-fn put_head(out: &mut [u8], at: usize, key: u64, location: u32) -> usize
-    requires { at + HEAD_MOST ≤ length out.old }
-    ensures wrote { Wrote at (event_head key location) out.old out.new result }
-    ensures upper_bound { result ≤ at + HEAD_MOST }
-{
-    let a = put_byte(out, at, b'E');
-    let b = put_field(out, a, 16, key);
-    put_field(out, b, 16, location as u64)
-}
+    // A separator and a number.
+    fn put_field(&mut self, base: u64, v: u64)
+        requires { (10 ≤ base) × (base ≤ 16) × (self.old.at + FIELD_MOST ≤ length self.old.bytes.now) }
+        ensures wrote { Wrote self.old.at (field base v) self.old.bytes.now self.new.bytes.now self.new.at }
+        ensures upper_bound { self.new.at ≤ self.old.at + FIELD_MOST }
+    {
+        self.put_byte(b',');
+        let k = width_of(base, v);
+        put_digits(self.bytes, self.at, base, v, k);
+        self.at += k;
+    }
 
-// State and marks.
-fn put_marks(out: &mut [u8], at: usize, state: u32, repeat: u32, synthetic: u32) -> usize
-    requires { at + MARKS_MOST ≤ length out.old }
-    ensures wrote { Wrote at (event_marks state repeat synthetic) out.old out.new result }
-    ensures upper_bound { result ≤ at + MARKS_MOST }
-{
-    let a = put_field(out, at, 16, state as u64);
-    let b = put_field(out, a, 16, repeat as u64);
-    put_field(out, b, 16, synthetic as u64)
-}
+    // Two digits a byte.
+    fn put_pairs(&mut self, text: &[u8])
+        requires { self.old.at + length text.now + length text.now ≤ length self.old.bytes.now }
+        ensures wrote { Wrote self.old.at (pairs text.now) self.old.bytes.now self.new.bytes.now self.new.at }
+        ensures value { self.new.at ≡ self.old.at + length text.now + length text.now }
+    {
+        for b in text {
+            self.put_byte(glyph_of(u64::from(*b / 16)));
+            self.put_byte(glyph_of(u64::from(*b % 16)));
+        }
+    }
 
-// The text and the line's end.
-fn put_text(out: &mut [u8], at: usize, text: &[u8]) -> usize
-    requires { (at + TEXT_PART_MOST ≤ length out.old) × (length text.now ≤ TEXT_MOST) }
-    ensures wrote { Wrote at (event_text text.now) out.old out.new result }
-    ensures upper_bound { result ≤ at + TEXT_PART_MOST }
-{
-    let a = put_byte(out, at, b',');
-    let b = put_pairs(out, a, text);
-    put_byte(out, b, b'\n')
-}
+    // `E`, key and location.
+    fn put_head(&mut self, key: u64, location: u32)
+        requires { self.old.at + HEAD_MOST ≤ length self.old.bytes.now }
+        ensures wrote { Wrote self.old.at (event_head key location) self.old.bytes.now self.new.bytes.now self.new.at }
+        ensures upper_bound { self.new.at ≤ self.old.at + HEAD_MOST }
+    {
+        self.put_byte(b'E');
+        self.put_field(16, key);
+        self.put_field(16, u64::from(location));
+    }
 
-// An event's line.
-pub fn put_event(
-    out: &mut [u8],
-    at: usize,
-    key: u64,
-    location: u32,
-    state: u32,
-    repeat: u32,
-    synthetic: u32,
-    text: &[u8],
-) -> usize
-    requires { (at + EVENT_LINE_MOST ≤ length out.old) × (length text.now ≤ TEXT_MOST) }
-    ensures wrote { Wrote at (event_line key location state repeat synthetic text.now) out.old out.new result }
-    ensures upper_bound { result ≤ at + EVENT_LINE_MOST }
-{
-    let a = put_head(out, at, key, location);
-    let b = put_marks(out, a, state, repeat, synthetic);
-    put_text(out, b, text)
-}
+    // State and marks.
+    fn put_marks(&mut self, state: u32, repeat: u32, synthetic: u32)
+        requires { self.old.at + MARKS_MOST ≤ length self.old.bytes.now }
+        ensures wrote { Wrote self.old.at (event_marks state repeat synthetic) self.old.bytes.now self.new.bytes.now self.new.at }
+        ensures upper_bound { self.new.at ≤ self.old.at + MARKS_MOST }
+    {
+        self.put_field(16, u64::from(state));
+        self.put_field(16, u64::from(repeat));
+        self.put_field(16, u64::from(synthetic));
+    }
 
-// A refusal's line.
-pub fn put_refusal(out: &mut [u8], at: usize, line: u64, number: u32) -> usize
-    requires { at + REFUSAL_LINE_MOST ≤ length out.old }
-    ensures wrote { Wrote at (refusal_line line number) out.old out.new result }
-    ensures upper_bound { result ≤ at + REFUSAL_LINE_MOST }
-{
-    let a = put_byte(out, at, b'X');
-    let b = put_field(out, a, 10, line);
-    let c = put_field(out, b, 10, number as u64);
-    put_byte(out, c, b'\n')
+    // The text and the line's end.
+    fn put_text(&mut self, text: &[u8])
+        requires { (self.old.at + TEXT_PART_MOST ≤ length self.old.bytes.now) × (length text.now ≤ TEXT_MOST) }
+        ensures wrote { Wrote self.old.at (event_text text.now) self.old.bytes.now self.new.bytes.now self.new.at }
+        ensures upper_bound { self.new.at ≤ self.old.at + TEXT_PART_MOST }
+    {
+        self.put_byte(b',');
+        self.put_pairs(text);
+        self.put_byte(b'\n');
+    }
+
+    // An event's line.
+    pub fn put_event(
+        &mut self,
+        key: u64,
+        location: u32,
+        state: u32,
+        repeat: u32,
+        synthetic: u32,
+        text: &[u8],
+    )
+        requires { (self.old.at + EVENT_LINE_MOST ≤ length self.old.bytes.now) × (length text.now ≤ TEXT_MOST) }
+        ensures wrote { Wrote self.old.at (event_line key location state repeat synthetic text.now) self.old.bytes.now self.new.bytes.now self.new.at }
+        ensures upper_bound { self.new.at ≤ self.old.at + EVENT_LINE_MOST }
+    {
+        self.put_head(key, location);
+        self.put_marks(state, repeat, synthetic);
+        self.put_text(text);
+    }
+
+    // A refusal's line.
+    pub fn put_refusal(&mut self, line: u64, number: u32)
+        requires { self.old.at + REFUSAL_LINE_MOST ≤ length self.old.bytes.now }
+        ensures wrote { Wrote self.old.at (refusal_line line number) self.old.bytes.now self.new.bytes.now self.new.at }
+        ensures upper_bound { self.new.at ≤ self.old.at + REFUSAL_LINE_MOST }
+    {
+        self.put_byte(b'X');
+        self.put_field(10, line);
+        self.put_field(10, u64::from(number));
+        self.put_byte(b'\n');
+    }
 }

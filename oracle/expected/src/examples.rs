@@ -71,7 +71,7 @@ fn answers(e: &Example) -> (String, Vec<Answer>) {
         format!("numbered 1 ({})", antt::events(&vec![events[0].clone(); waiting]))
       }
     };
-    format!("record {{ handed = {}; entries = {press} ∷ {behind}; held = none }}", seen.handed)
+    format!("record {{ handed = {}; entries = {press} ∷ {behind}; held = None }}", seen.handed)
   });
   (start, after.into_iter().map(|(answer, _)| answer).collect())
 }
@@ -93,7 +93,7 @@ fn row(e: &Example) -> String {
     let answer = match answer {
       Answer::Refused(number) => format!("refused {number}"),
       Answer::Answered(token, slot, events) => {
-        let token = token.map_or("none".into(), |t| format!("(some {t})"));
+        let token = token.map_or("None".into(), |t| format!("(Some {t})"));
         let result = match slot {
           &LENT => "lent",
           Slot::Value(0) => "(Value zero_result)",
@@ -114,8 +114,7 @@ const HEAD: &str = "\
 -- tao's last empty queue. Calls that SCOPE 6 refuses were not given to tao: it panics there (5) or has no such limit or test (6 to 11).
 -- A finish with WM_QUIT peeked was given to it as one with nothing peeked (SCOPE 3.17).
 -- Assumes nothing.
-use Rattle.std.specs.Prelude.{ℕ, true, false, List, [], ◌∷◌}
-use Rattle.std.proofs.Math.Option.{some, none}
+use Rattle.std.specs.Prelude.{ℕ, true, false, List, [], ◌∷◌, Some, None}
 use Rattle.keys.specs.Text.{named, character, unidentified, dead, dead_char}
 use Rattle.keys.specs.declared.KeyLocation.TheVariants as at
 use Rattle.keys.specs.declared.NativeKeyCode.TheVariants as native

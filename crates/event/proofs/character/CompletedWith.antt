@@ -1,9 +1,9 @@
 -- The event of a held press that is completed, with its logical key and its text: what a last character completes.
 -- Assumes nothing.
+use Rattle.std.specs.Prelude.{Option}
 use mathlib.Core.Path.{◌≡◌, ap}
 use mathlib.Core.Bool.{Bool}
 use mathlib.Core.List.{List}
-use mathlib.Core.Option.{Option}
 use Prim.Native.Nat.{ℕ}
 use Rattle.area.specs.Pick.{pick}
 use Rattle.segmentation.specs.Table.{Table}

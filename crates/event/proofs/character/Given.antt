@@ -1,9 +1,9 @@
 -- The text that a key of a layout gives is within its field.
 -- Assumes nothing.
+use Rattle.std.specs.Prelude.{Option, Some, None}
 use mathlib.Core.Path.{◌≡◌}
 use mathlib.Core.Bool.{true, and-eq-true_iff}
 use mathlib.Core.List.{List}
-use mathlib.Core.Option.{Option, some, none}
 use Prim.Native.Nat.{ℕ, ◌≤◌, zero-le}
 use lib.Dec.{ltb, leb}
 use lib.ListN.{length}
@@ -17,8 +17,8 @@ use Rattle.session.proofs.Ranges.{KeyFits, to_text_fits}
 -- a text that fits its field, or none
 pub opt_within : (o : Option (List ℕ)) → opt_text_fits o ≡ true → length (bytes_of o) ≤ TEXT_MOST
 unfolding opt_text_fits text_fits
-opt_within none h = zero-le
-opt_within (some t) h =
+opt_within None h = zero-le
+opt_within (Some t) h =
     let a = (and-eq-true_iff (ltb 0 (length t)) _).0 h in
     leb-true (length t) TEXT_MOST ((and-eq-true_iff (leb (length t) TEXT_MOST) _).0 a.1).0
 

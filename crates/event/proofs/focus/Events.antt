@@ -1,5 +1,6 @@
 -- The events of a focus change: one for each key that it writes, in their order.
 -- Assumes nothing.
+use Rattle.std.proofs.lemmas.List.{take_all}
 use mathlib.Core.Path.{◌≡◌, refl, sym, ap, ◌∙◌}
 use mathlib.Core.Bool.{Bool, true, false}
 use mathlib.Core.List.{List, [], ◌∷◌, ◌++◌, map, map-append}
@@ -14,7 +15,6 @@ use Rattle.lookup.specs.Layout.{scan_code_for}
 use Rattle.session.specs.Builder.{Keyboard}
 use Rattle.session.specs.Event.{Event}
 use Rattle.session.specs.Focus.{focus_keys, written, synthetic_event, synthetic_events, focus_events}
-use Rattle.session.specs.Limits.{KEYS}
 use Rattle.session.specs.declared.ElementState.{ElementState}
 use Rattle.event.specs.Written.{keyboard_at, written_of}
 
@@ -47,9 +47,9 @@ module _ (block state : List ℕ) (st : ElementState) where
   abbrev pub event_of : ℕ → Event
   event_of vk = synthetic_event (keyboard_at state block) st vk (scan_code_for (maps_of block) vk)
 
-  -- what focus_keys says of the keys and their number
-  abbrev pub Noted : List ℕ → ℕ → Type 0
-  Noted keys n = (take n keys ≡ written_of (keyboard_at state block) (focus_keys st)) × (n ≤ 253) × (length keys ≡ KEYS)
+  -- what focus_keys says of the keys
+  abbrev pub Noted : List ℕ → Type 0
+  Noted keys = (keys ≡ written_of (keyboard_at state block) (focus_keys st)) × (length keys ≤ 253)
 
   -- the events of the first i keys
   unfoldable pub events_to : List ℕ → ℕ → List Event
@@ -67,26 +67,16 @@ module _ (block state : List ℕ) (st : ElementState) where
   unfolding events_to
   count_to keys i h = length-map (take i keys) event_of ∙ length-take-le i keys h
 
-  module _ (keys : List ℕ) (n : ℕ) (k : Noted keys n) where
-    pub all_events : events_to keys n ≡ focus_events (keyboard_at state block) st
+  module _ (keys : List ℕ) (k : Noted keys) where
+    pub all_events : events_to keys (length keys) ≡ focus_events (keyboard_at state block) st
     unfolding events_to
-    all_events = ap (λ (l : List ℕ). map event_of l) k.0 ∙ sym (focus-events (keyboard_at state block) st)
+    all_events =
+        ap (λ (l : List ℕ). map event_of l) (take_all (length keys) keys (omega arith) ∙ k.0) ∙ sym (focus-events (keyboard_at state block) st)
 
-    pub count : n ≡ length (focus_events (keyboard_at state block) st)
-    count = sym (count_to keys n (omega arith)) ∙ ap length all_events
+    pub count : length keys ≡ length (focus_events (keyboard_at state block) st)
+    count = sym (count_to keys (length keys) (omega arith)) ∙ ap length all_events
 
     -- a key left is an event left
     pub one_left :
-        (i m most : ℕ) → i < n → m + length (focus_events (keyboard_at state block) st) ≤ most → m + length (events_to keys i) < most
+        (i m most : ℕ) → i < length keys → m + length (focus_events (keyboard_at state block) st) ≤ most → m + length (events_to keys i) < most
     one_left i m most h l = omega (arith, count, count_to keys i (omega arith))
-
--- the keys and the event of a key, asked of what they are asked of here
-module _ (block state : List ℕ) (st : ElementState) (b s : List ℕ) (t : ElementState) where
-  pub noted_here :
-      (keys : List ℕ) (n : ℕ) → Noted b s t keys n → (b ≡ block) × (s ≡ state) × (t ≡ st) → Noted block state st keys n
-  noted_here keys n k e = rw (← e.0, ← e.1, ← e.2) k
-
-  pub made_here :
-      (keys : List ℕ) (j i : ℕ) {e : Event} → e ≡ event_of b s t (get_or keys j 0) → (b ≡ block) × (s ≡ state) × (t ≡ st) × (j ≡ i) →
-      e ≡ event_of block state st (get_or keys i 0)
-  made_here keys j i p e = rw (← e.0, ← e.1, ← e.2, ← e.3) p

@@ -1,15 +1,14 @@
 -- What a block that passed question 3 is, as facts.
 -- Assumes nothing.
-use mathlib.Core.Path.{◌≡◌, sym, ◌∙◌}
-use mathlib.Core.Bool.{Bool, true, false}
+use mathlib.Core.Path.{◌≡◌}
+use mathlib.Core.Bool.{true}
 use mathlib.Core.List.{List}
 use Prim.Native.Nat.{ℕ, zero, suc, ◌+◌, ◌-◌, ◌≤◌, ◌<◌}
 use native.Mathlib.Nat.{suc-add, zero-add}
 use native.Mathlib.Omega.{arith}
 use lib.Dec.{eqb, ltb}
 use lib.ListN.{length, drop, get_or}
-use borrow.Author.Tests.{le-ltb, ltb-false, eq-eqb, ne_eqb, eqb-true}
-use Rattle.area.specs.Pick.{pick}
+use borrow.Author.Tests.{ltb-false, eqb-true}
 use Rattle.area.specs.Walk.{every}
 use Rattle.area.proofs.Pick.{no_yes, yes_no}
 use Rattle.area.proofs.Walk.{every_at}
@@ -44,24 +43,9 @@ passed x e =
       last = eqb-true (start_of x LISTS) (length x) g.1;
     }
 
--- What the code found of a header that is in order.
-abbrev pub Header : List ℕ → Type 0
-Header x = (length x ≤ BLOCK_MOST) × (HEAD ≤ length x) × (get_or x 0 0 ≤ 1)
-
-module _ (x : List ℕ) (h : Header x) where
-  headed : block_ok x ≡ pick (eqb (get_or x 1 0) 0) (pick (table_ok x) (lists_ok x) false) false
-  unfolding block_ok
-  headed = rw (le-ltb BLOCK_MOST (length x) h.0, le-ltb (length x) HEAD h.1, le-ltb 1 (get_or x 0 0) h.2)
-
-  pub no_gap : (get_or x 1 0 ≡ 0 → ⊥) → false ≡ block_ok x
-  no_gap n = rw (headed, ne_eqb (get_or x 1 0) 0 n)
-
-  module _ (g : get_or x 1 0 ≡ 0) (t : Bool) (te : t ≡ table_ok x) where
-    pub no_table : t ≡ false → false ≡ block_ok x
-    no_table q = rw (headed, eq-eqb (get_or x 1 0) 0 g, sym te ∙ q)
-
-    pub by_lists : t ≡ true → (r : Bool) → r ≡ lists_ok x → r ≡ block_ok x
-    by_lists q r re = rw (headed, eq-eqb (get_or x 1 0) 0 g, sym te ∙ q) re
+-- its header is there
+pub headed : (x : List ℕ) → block_ok x ≡ true → HEAD ≤ length x
+headed x e = (passed x e).head
 
 start_mono : (x : List ℕ) (j d : ℕ) → start_of x j ≤ start_of x (d + j)
 unfolding start_of

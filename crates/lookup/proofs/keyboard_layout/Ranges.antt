@@ -1,10 +1,10 @@
 -- What the lookups answer is of its type and within its limits, where the layout's maps are in order: get_key's key and text, the scan
 -- codes and virtual keys of a message and of the tables, the key code of a scan code.
 -- Assumes nothing.
+use Rattle.std.specs.Prelude.{Option, Some, None}
 use mathlib.Core.Path.{◌≡◌, refl}
 use mathlib.Core.Bool.{Bool, true, false}
 use mathlib.Core.List.{List, [], ◌∷◌}
-use mathlib.Core.Option.{Option, some, none}
 use Prim.Native.Nat.{ℕ, zero, suc, ◌+◌, ◌^◌, ◌≤◌, ◌<◌}
 use native.Mathlib.Omega.{arith}
 use lib.Dec.{eqb, ltb, leb}
@@ -34,12 +34,12 @@ use Rattle.lookup.specs.Codes.{scan_codes, key_code_of}
 
 -- P holds of the value, if there is one
 abbrev pub Each : {A : Type 0} → (A → Type 0) → Option A → Type 0
-Each P none = Unit {0}
-Each P (some a) = P a
+Each P None = Unit {0}
+Each P (Some a) = P a
 
 pub or-else : {A : Type 0} (P : A → Type 0) (o : Option A) {d : A} → Each P o → P d → P (or_else o d)
-or-else P none p q = q
-or-else P (some a) p q = p
+or-else P None p q = q
+or-else P (Some a) p q = p
 
 -- ---- a key in order
 
@@ -123,7 +123,7 @@ list-ok (suc n) (l ∷ ls) e =
 as_named-ok : (n : ℕ) → non_char_ok n ≡ true → Each Ok (as_named n)
 as_named-ok n e = go (eqb n 0) e
   where
-    go : (b : Bool) → pick b true (named_ok n) ≡ true → Each Ok (pick b none (some (named n)))
+    go : (b : Bool) → pick b true (named_ok n) ≡ true → Each Ok (pick b None (Some (named n)))
     go true e = tt
     go false e = named_ok_lem n e
 

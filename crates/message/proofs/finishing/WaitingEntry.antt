@@ -1,9 +1,9 @@
 -- The entry that a finish finds by its token: what waits there, where its parts stand, and what is left where nothing waits.
 -- Assumes nothing.
+use Rattle.std.specs.Prelude.{Option, Some, None}
 use mathlib.Core.Path.{◌≡◌, refl, sym, ap, ◌∙◌}
 use mathlib.Core.Bool.{Bool, true, false, ◌&&◌}
 use mathlib.Core.List.{List, [], ◌∷◌}
-use mathlib.Core.Option.{Option, some, none}
 use Prim.Native.Nat.{ℕ, suc, ◌+◌, ◌-◌, ◌*◌, ◌≤◌, ◌<◌}
 use native.Mathlib.Omega.{arith}
 use lib.Dec.{eqb, ltb}
@@ -19,7 +19,7 @@ use Rattle.lookup.specs.Block.{block_ok}
 use Rattle.lookup.specs.declared.keyboard.KeyLParam.{KeyLParam}
 use Rattle.session.specs.Limits.{AREA, ENTRIES_MOST, ENTRIES_AT, ENTRY_SIZE, KEY_TEXT_MOST}
 use Rattle.session.specs.Event.{Info}
-use Rattle.session.specs.Given.{Message}
+use Rattle.session.specs.declared.Message.{Message}
 use Rattle.session.specs.Session.{press, release, character, Entry, token_of, info_fits, wait_fits}
 use Rattle.session.specs.Area.{full_key, info, pressed, entry, decode, encode_answer}
 use Rattle.session.specs.Builder.{Keyboard}
@@ -63,14 +63,14 @@ found t (x ∷ l) y r h d = found_by (eqb t (token_of x)) t x l y r refl h d (fo
 
 lost_by :
     (b : Bool) (t : ℕ) (x : Entry) (l : List Entry) → eqb t (token_of x) ≡ b → length (x ∷ l) ≤ place_of_token t (x ∷ l) →
-    (length l ≤ place_of_token t l → find_wait t l ≡ none) → find_wait t (x ∷ l) ≡ none
+    (length l ≤ place_of_token t l → find_wait t l ≡ None) → find_wait t (x ∷ l) ≡ None
 unfolding place_of_token find_wait
 lost_by true t x l e h f = let g : suc (length l) ≤ pick true 0 (suc (place_of_token t l)) = rw e at h in absurd (omega arith)
 lost_by false t x l e h f =
     let g : suc (length l) ≤ pick false 0 (suc (place_of_token t l)) = rw e at h in
     rw e (f (omega arith))
 
-pub lost : (t : ℕ) (l : List Entry) → length l ≤ place_of_token t l → find_wait t l ≡ none
+pub lost : (t : ℕ) (l : List Entry) → length l ≤ place_of_token t l → find_wait t l ≡ None
 unfolding find_wait
 lost t [] h = refl
 lost t (x ∷ l) h = lost_by (eqb t (token_of x)) t x l refl h (lost t l)
@@ -80,7 +80,7 @@ lost t (x ∷ l) h = lost_by (eqb t (token_of x)) t x l refl h (lost t l)
 module _ (x : List ℕ) (b : (i : ℕ) → get_or x i 0 < 256) (own : IsArea x) where
   -- nothing waits: nothing is done
   pub nothing_left :
-      (k : Keyboard) (r : Table) (t : ℕ) (p : Option Message) {y : List ℕ} → find_wait t (decode x).entries ≡ none → y ≡ encode_answer [] →
+      (k : Keyboard) (r : Table) (t : ℕ) (p : Option Message) {y : List ℕ} → find_wait t (decode x).entries ≡ None → y ≡ encode_answer [] →
       Does (finished_by (decode x) k r t p) x y
   nothing_left k r t p f e = rw (f, finish_lost (decode x) k r t p) (record { session = (own_area x b own).exact; answers = e })
 
@@ -151,14 +151,14 @@ module _ (x y block : List ℕ) (t place : ℕ) (a : EntryAt case.Press x y bloc
 
   pub press_waits :
       (vkey : ℕ) (l : KeyLParam) {k : ℕ} → (vkey, l) ≡ pressed.get (take (length x - k) (drop k x)) → k ≡ ENTRIES_AT + ENTRY_SIZE * place + 4 →
-      find_wait t (decode x).entries ≡ some (press vkey l)
+      find_wait t (decode x).entries ≡ Some (press vkey l)
   press_waits vkey l g e =
       let h = drop (ENTRIES_AT + ENTRY_SIZE * place) x in
       waits_here case.Press x y block t place a
       ∙ ap wait_in (press_at h a.case)
-      ∙ ap (λ (q : ℕ × KeyLParam). some (press q.0 q.1)) (sym (g ∙ ap pressed.get (part case.Press x y block t place a 4 e)))
+      ∙ ap (λ (q : ℕ × KeyLParam). Some (press q.0 q.1)) (sym (g ∙ ap pressed.get (part case.Press x y block t place a 4 e)))
 
-  pub press_range : (vkey : ℕ) (l : KeyLParam) → find_wait t (decode x).entries ≡ some (press vkey l) → (vkey < 65536) × (l.scancode < 256)
+  pub press_range : (vkey : ℕ) (l : KeyLParam) → find_wait t (decode x).entries ≡ Some (press vkey l) → (vkey < 65536) × (l.scancode < 256)
   unfolding wait_fits
   press_range vkey l e =
       let f : (ltb vkey 65536 && ltb l.scancode 256) ≡ true = rw e at (waits_fit case.Press x y block t place a b) in
@@ -177,11 +177,11 @@ module _ (x y block : List ℕ) (t place : ℕ) (a : EntryAt case.Release x y bl
   pub release_passes : info.ok (drop (info_place place) x) ≡ true
   release_passes = rw kept_part (release-ok (drop (ENTRIES_AT + ENTRY_SIZE * place) x) a.case (in_order_lem case.Release x y block t place a))
 
-  pub release_waits : find_wait t (decode x).entries ≡ some (release (info_at x place))
+  pub release_waits : find_wait t (decode x).entries ≡ Some (release (info_at x place))
   release_waits =
       waits_here case.Release x y block t place a
       ∙ ap wait_in (release_at (drop (ENTRIES_AT + ENTRY_SIZE * place) x) a.case)
-      ∙ ap (λ (l : List ℕ). some (release (info.get l))) (sym kept_part)
+      ∙ ap (λ (l : List ℕ). Some (release (info.get l))) (sym kept_part)
 
   -- its logical key is read from byte k of the area on
   pub key_reads : {k : ℕ} → k ≤ length x → k ≡ info_place place + 4 → 7 ≤ length (take (length x - k) (drop k x))
@@ -195,19 +195,19 @@ module _ (x y block : List ℕ) (t place : ℕ) (a : EntryAt case.Release x y bl
       let q : take (length x - k) (drop k x) ≡ drop 4 l = part_rest k x ∙ rw e (sym (drop-drop 4 (info_place place) x)) in
       ap (λ (n : Info). bare_of n.logical_key) (info_got l) ∙ sym (g ∙ ap (λ (m : List ℕ). bare_of ((full_key KEY_TEXT_MOST).get m)) q)
 
-  pub release_range : (n : Info) → find_wait t (decode x).entries ≡ some (release n) → info_fits n ≡ true
+  pub release_range : (n : Info) → find_wait t (decode x).entries ≡ Some (release n) → info_fits n ≡ true
   unfolding wait_fits
   release_range n e = rw e at (waits_fit case.Release x y block t place a b)
 
 -- ---- an open character
 
 pub character_waits :
-    (x y block : List ℕ) (t place : ℕ) → EntryAt case.Character x y block t place → find_wait t (decode x).entries ≡ some character
+    (x y block : List ℕ) (t place : ℕ) → EntryAt case.Character x y block t place → find_wait t (decode x).entries ≡ Some character
 character_waits x y block t place a =
     waits_here case.Character x y block t place a ∙ ap wait_in (character_at (drop (ENTRIES_AT + ENTRY_SIZE * place) x) a.case)
 
 -- ---- a complete entry does not wait
 
-pub completed : (x y block : List ℕ) (t place : ℕ) → EntryAt case.Complete x y block t place → find_wait t (decode x).entries ≡ none
+pub completed : (x y block : List ℕ) (t place : ℕ) → EntryAt case.Complete x y block t place → find_wait t (decode x).entries ≡ None
 completed x y block t place a =
     waits_here case.Complete x y block t place a ∙ ap wait_in (complete_at (drop (ENTRIES_AT + ENTRY_SIZE * place) x) a.case)

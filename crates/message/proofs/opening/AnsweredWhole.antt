@@ -1,8 +1,8 @@
 -- What each message that is answered whole gives, from what the functions below left.
 -- Assumes nothing.
+use Rattle.std.specs.Prelude.{Option, Some, None}
 use mathlib.Core.Path.{◌≡◌, refl, sym, ◌∙◌}
 use mathlib.Core.List.{List, [], ◌∷◌, ◌++◌}
-use mathlib.Core.Option.{Option, some, none}
 use Prim.Native.Nat.{ℕ, ◌+◌, ◌<◌}
 use native.Mathlib.Omega.{arith}
 use lib.ListN.{get_or, length}
@@ -15,7 +15,6 @@ use Rattle.session.specs.Calls.{numbered, behind, dead_char_answered}
 use Rattle.session.specs.Focus.{focus_events}
 use Rattle.session.specs.Answers.{open_said}
 use Rattle.session.specs.declared.ElementState.{ElementState}
-use Rattle.session.specs.declared.OpenAnswer.TheVariants.{OpenedNone}
 use Rattle.queue.specs.Changed.{holding, with_event}
 use Rattle.queue.specs.Room.{IsArea, HasRoom}
 use Rattle.queue.proofs.Areas.{AreaOf, own_area, room_of}
@@ -27,7 +26,7 @@ use Rattle.message.specs.Gives.{Gives, followed}
 
 out :
     (s : Session) (es : List Event) (h : Option Held) (l : List Entry) → length l ≡ 0 → {x y : List ℕ} →
-    x ≡ encode (record { handed = s.handed; held = h; entries = l }) → y ≡ encode_answer es → Gives (behind s es h l) OpenedNone x y
+    x ≡ encode (record { handed = s.handed; held = h; entries = l }) → y ≡ encode_answer es → Gives (behind s es h l) None x y
 unfolding behind open_said
 out s es h [] n p q = record { said = refl; session = p; answers = q }
 out s es h (e ∷ l) n p q = absurd (omega arith)
@@ -35,7 +34,7 @@ out s es h (e ∷ l) n p q = absurd (omega arith)
 waits :
     (s : Session) (es : List Event) (h : Option Held) (l : List Entry) → (length l ≡ 0 → ⊥) → {x y : List ℕ} →
     x ≡ encode (record { handed = s.handed + length es; held = h; entries = l ++ numbered s.handed es }) → y ≡ encode_answer [] →
-    Gives (behind s es h l) OpenedNone x y
+    Gives (behind s es h l) None x y
 unfolding behind open_said
 waits s es h [] n p q = absurd (n refl)
 waits s es h (e ∷ l) n p q = record { said = refl; session = p; answers = q }
@@ -47,13 +46,13 @@ module _ (x : List ℕ) (b : (i : ℕ) → get_or x i 0 < 256) (r : IsArea x) (n
   module _ (block state : List ℕ) (st : ElementState) {a s : List ℕ} {t : ElementState} where
     pub focus-out :
         n ≡ 0 → {z : List ℕ} → z ≡ encode_answer (focus_events (keyboard_at s a) t) → (a ≡ block) × (s ≡ state) × (t ≡ st) →
-        Gives (behind (decode x) (focus_events (keyboard_at state block) st) (decode x).held (decode x).entries) OpenedNone x z
+        Gives (behind (decode x) (focus_events (keyboard_at state block) st) (decode x).held (decode x).entries) None x z
     focus-out i q e = rw (← e.0, ← e.1, ← e.2) (out (decode x) _ (decode x).held (decode x).entries (sym c ∙ i) (own_area x b r).exact q)
 
     pub focus_waits :
         (n ≡ 0 → ⊥) → {z w : List ℕ} → z ≡ encode (followed (decode x) (focus_events (keyboard_at s a) t)) → w ≡ encode_answer [] →
         (a ≡ block) × (s ≡ state) × (t ≡ st) →
-        Gives (behind (decode x) (focus_events (keyboard_at state block) st) (decode x).held (decode x).entries) OpenedNone z w
+        Gives (behind (decode x) (focus_events (keyboard_at state block) st) (decode x).held (decode x).entries) None z w
     unfolding followed
     focus_waits l q w e = rw (← e.0, ← e.1, ← e.2) (waits (decode x) _ (decode x).held (decode x).entries (λ i. l (c ∙ i)) q w)
 
@@ -62,27 +61,27 @@ module _ (x : List ℕ) (b : (i : ℕ) → get_or x i 0 < 256) (r : IsArea x) (n
   some_entry f = let l : length (decode x).entries ≡ 0 → ⊥ = λ i. f (c ∙ i) in omega arith
 
   -- a dead character completes the held press h as the event v, and y holds none
-  module _ (h : Held) (e : (decode x).held ≡ some h) (v : Event) (u : v ≡ dead_char_event h) {y : List ℕ} (p : y ≡ encode (holding (decode x) none)) where
-    without : AreaOf (holding (decode x) none) y
+  module _ (h : Held) (e : (decode x).held ≡ Some h) (v : Event) (u : v ≡ dead_char_event h) {y : List ℕ} (p : y ≡ encode (holding (decode x) None)) where
+    without : AreaOf (holding (decode x) None) y
     without = forgotten (decode x) (own_area x b r) p
 
     pub dead_room : length (decode x).entries < ENTRIES_MOST → (decode x).handed < TOKENS_MOST → HasRoom y
     dead_room l t = room_of _ without l t
 
-    dead-behind : dead_char_answered (decode x) (decode x).held ≡ behind (decode x) (v ∷ []) none (decode x).entries
+    dead-behind : dead_char_answered (decode x) (decode x).held ≡ behind (decode x) (v ∷ []) None (decode x).entries
     unfolding dead_char_answered
     dead-behind = rw (e, u) refl
 
-    pub dead-out : n ≡ 0 → {z : List ℕ} → z ≡ encode_answer (v ∷ []) → Gives (dead_char_answered (decode x) (decode x).held) OpenedNone y z
-    dead-out i q = rw dead-behind (out (decode x) (v ∷ []) none (decode x).entries (sym c ∙ i) without.exact q)
+    pub dead-out : n ≡ 0 → {z : List ℕ} → z ≡ encode_answer (v ∷ []) → Gives (dead_char_answered (decode x) (decode x).held) None y z
+    dead-out i q = rw dead-behind (out (decode x) (v ∷ []) None (decode x).entries (sym c ∙ i) without.exact q)
 
     one_more :
         {z : List ℕ} → z ≡ encode (with_event (decode y) v) →
-        z ≡ encode (record { handed = (decode x).handed + 1; held = none; entries = (decode x).entries ++ numbered (decode x).handed (v ∷ []) })
+        z ≡ encode (record { handed = (decode x).handed + 1; held = None; entries = (decode x).entries ++ numbered (decode x).handed (v ∷ []) })
     unfolding numbered
     one_more q = q ∙ rw without.back refl
 
     pub dead_waits :
         (n ≡ 0 → ⊥) → {z w : List ℕ} → z ≡ encode (with_event (decode y) v) → w ≡ encode_answer [] →
-        Gives (dead_char_answered (decode x) (decode x).held) OpenedNone z w
-    dead_waits l q w = rw dead-behind (waits (decode x) (v ∷ []) none (decode x).entries (λ i. l (c ∙ i)) (one_more q) w)
+        Gives (dead_char_answered (decode x) (decode x).held) None z w
+    dead_waits l q w = rw dead-behind (waits (decode x) (v ∷ []) None (decode x).entries (λ i. l (c ∙ i)) (one_more q) w)

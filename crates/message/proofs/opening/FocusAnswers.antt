@@ -59,9 +59,10 @@ module _ (block state : List ℕ) (st : ElementState) where
 
     -- all of them, their number, and zeros behind
     pub handed_all :
-        (keys : List ℕ) (n : ℕ) (y₀ : List ℕ) {y z : List ℕ} → Noted block state st keys n → length y₀ ≡ AREA → Handing (events_to block state st keys n) y₀ y →
-        z ≡ zero_from (ANSWER_EVENTS_AT + ANSWER_EVENT_SIZE * n) (splice 0 (le 2 n) y) → z ≡ encode_answer (focus_events (keyboard_at state block) st)
-    handed_all keys n y₀ {y} {z} k l p w =
+        (keys : List ℕ) (y₀ : List ℕ) {y z : List ℕ} → Noted block state st keys → length y₀ ≡ AREA → Handing (events_to block state st keys (length keys)) y₀ y →
+        z ≡ zero_from (ANSWER_EVENTS_AT + ANSWER_EVENT_SIZE * length keys) (splice 0 (le 2 (length keys)) y) → z ≡ encode_answer (focus_events (keyboard_at state block) st)
+    handed_all keys y₀ {y} {z} k l p w =
+        let n = length keys in
         let c = count_to block state st keys n (omega arith) in
         answer_done (events_to block state st keys n) y₀ (ANSWER_EVENTS_AT + ANSWER_EVENT_SIZE * n) (events_fit keys n) (omega arith) l (omega arith) p refl (w ∙ ap (λ (m : ℕ). zero_from (ANSWER_EVENTS_AT + ANSWER_EVENT_SIZE * n) (splice 0 (le 2 m) y)) (sym c))
-        ∙ ap encode_answer (all_events block state st keys n k)
+        ∙ ap encode_answer (all_events block state st keys k)

@@ -61,9 +61,6 @@ pub record Queued (x : List ℕ) (es : List Event) (y : List ℕ) : Type 0 where
   pub area : y ≡ encode (followed (decode x) es)
   pub session : is_session (followed (decode x) es) ≡ true
 
-pub queued_length : (x : List ℕ) (es : List Event) {y : List ℕ} → Queued x es y → length y ≡ AREA
-queued_length x es q = ap length q.area ∙ (session_back (followed (decode x) es) q.session).0
-
 queued_none : (x : List ℕ) → ((i : ℕ) → get_or x i 0 < 256) → IsArea x → Queued x [] x
 queued_none x b a =
     let e = session_exact x (each-byte x b) a.size a.passed in
@@ -115,14 +112,14 @@ module _ (block state : List ℕ) (st : ElementState) (x : List ℕ) where
 
   -- there is room for all of them, and one key is left
   module _
-      (some_entry : 0 < length (decode x).entries) (fit : FitBehind (decode x) (focus_events (keyboard_at state block) st)) (keys : List ℕ) (n : ℕ)
-      (k : Noted block state st keys n) (i : ℕ) (h : i < n) {y : List ℕ} (q : QueuedTo keys i y)
+      (some_entry : 0 < length (decode x).entries) (fit : FitBehind (decode x) (focus_events (keyboard_at state block) st)) (keys : List ℕ)
+      (k : Noted block state st keys) (i : ℕ) (h : i < length keys) {y : List ℕ} (q : QueuedTo keys i y)
     where
       entry-left : length (decode x).entries + length (events_to block state st keys i) < ENTRIES_MOST
-      entry-left = one_left block state st keys n k i (length (decode x).entries) ENTRIES_MOST h (behind-last (decode x).entries _ _ some_entry fit.entries)
+      entry-left = one_left block state st keys k i (length (decode x).entries) ENTRIES_MOST h (behind-last (decode x).entries _ _ some_entry fit.entries)
 
       token-left : (decode x).handed + length (events_to block state st keys i) < TOKENS_MOST
-      token-left = one_left block state st keys n k i (decode x).handed TOKENS_MOST h (behind-last (decode x).entries _ _ some_entry fit.tokens)
+      token-left = one_left block state st keys k i (decode x).handed TOKENS_MOST h (behind-last (decode x).entries _ _ some_entry fit.tokens)
 
       pub next_room : HasRoom y
       next_room = queued_room x (events_to block state st keys i) q entry-left token-left
@@ -137,6 +134,6 @@ module _ (block state : List ℕ) (st : ElementState) (x : List ℕ) where
           rw (one_more block state st keys i (omega arith), ← g) w
 
   pub all_queued :
-      (keys : List ℕ) (n : ℕ) → Noted block state st keys n → {y : List ℕ} → QueuedTo keys n y →
+      (keys : List ℕ) → Noted block state st keys → {y : List ℕ} → QueuedTo keys (length keys) y →
       y ≡ encode (followed (decode x) (focus_events (keyboard_at state block) st))
-  all_queued keys n k q = q.area ∙ ap (λ (es : List Event). encode (followed (decode x) es)) (all_events block state st keys n k)
+  all_queued keys k q = q.area ∙ ap (λ (es : List Event). encode (followed (decode x) es)) (all_events block state st keys k)

@@ -1,9 +1,9 @@
 -- What each kind of message may count on, once its questions are passed.
 -- Assumes nothing.
+use Rattle.std.specs.Prelude.{Option, Some}
 use mathlib.Core.Path.{◌≡◌, refl}
 use mathlib.Core.Bool.{true}
 use mathlib.Core.List.{List}
-use mathlib.Core.Option.{Option, some}
 use Prim.Native.Nat.{ℕ, ◌+◌, ◌≤◌}
 use native.Mathlib.Omega.{arith}
 use lib.ListN.{length, length-append}
@@ -11,7 +11,7 @@ use borrow.Author.Tests.{leb-true}
 use Rattle.text.specs.Message.{char_units}
 use Rattle.session.specs.Limits.{ENTRIES_MOST, TOKENS_MOST, UNITS_MOST}
 use Rattle.session.specs.Event.{Held}
-use Rattle.session.specs.Given.{Message}
+use Rattle.session.specs.declared.Message.{Message}
 use Rattle.session.specs.Session.{Session}
 use Rattle.session.specs.Area.{decode}
 use Rattle.session.specs.Builder.{Keyboard, with_units}
@@ -38,7 +38,7 @@ module _ (s : Session) (b : Keyboard) (m : Message) (k : Sort) (p : Passes s b m
   tokens-within = rw e at (leb-true (s.handed + new_entries s b k) TOKENS_MOST p.tokens)
 
 -- the units held with a character
-units_now : (o : Option Held) (h : Held) (m : Message) → o ≡ some h → units_after o m char ≡ length h.units + length (char_units m.wparam)
+units_now : (o : Option Held) (h : Held) (m : Message) → o ≡ Some h → units_after o m char ≡ length h.units + length (char_units m.wparam)
 unfolding units_after with_units
 units_now o h m e = rw e (length-append h.units (char_units m.wparam))
 
@@ -70,7 +70,7 @@ module _ (x : List ℕ) (a : IsArea x) (b : Keyboard) (m : Message) (k : Message
   unfolding as_sort new_entries
   held_room e h = one_more (rw (e, h) refl)
 
-  units-within : k ≡ sort.Char → (h : Held) → (decode x).held ≡ some h → length h.units + length (char_units m.wparam) ≤ UNITS_MOST
+  units-within : k ≡ sort.Char → (h : Held) → (decode x).held ≡ Some h → length h.units + length (char_units m.wparam) ≤ UNITS_MOST
   unfolding as_sort question9
   units-within e h f = rw (e, units_now (decode x).held h m f) at (leb-true (units_after (decode x).held m (as_sort k)) UNITS_MOST p.units)
 

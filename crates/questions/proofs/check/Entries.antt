@@ -4,7 +4,6 @@ use mathlib.Core.Path.{◌≡◌, refl, sym, ap, ◌∙◌}
 use mathlib.Core.Bool.{Bool, true, false, ◌&&◌}
 use mathlib.Core.List.{List}
 use Prim.Native.Nat.{ℕ, suc, ◌+◌, ◌-◌, ◌*◌, ◌≤◌, ◌<◌}
-use native.Mathlib.Nat.{sub-zero}
 use native.Mathlib.Omega.{arith}
 use lib.ListN.{length, take, drop, get_or}
 use lib.Seq.{drop-drop, get_or-drop}
@@ -122,9 +121,6 @@ module _ {A : Type 0} (X : Codec A) (w : ℕ) (e : X.width ≡ w) (n i : ℕ) (x
 
 abbrev pub AllOk : List ℕ → ℕ → ℕ → Type 0
 AllOk x n i = ok_many entry n x ≡ ok_many entry (n - i) (drop (ENTRY_SIZE * i) x)
-
-pub all_start : (x : List ℕ) (n : ℕ) → AllOk x n 0
-all_start x n = rw sub-zero
 
 module _ (x : List ℕ) (n i : ℕ) (inv : AllOk x n i) where
   module _ (h : i < n) {b : Bool} (e : b ≡ entry.ok (take (length x - ENTRY_SIZE * i) (drop (ENTRY_SIZE * i) x))) where

@@ -4,7 +4,7 @@ use mathlib.Core.Path.{◌≡◌, refl, sym, ap, ◌∙◌}
 use mathlib.Core.Bool.{Bool, true, false, ◌&&◌}
 use mathlib.Core.List.{List, ◌∷◌}
 use Prim.Native.Nat.{ℕ, zero, suc, ◌+◌, ◌-◌, ◌*◌, ◌≤◌, ◌<◌}
-use native.Mathlib.Nat.{add-zero, sub-zero}
+use native.Mathlib.Nat.{add-zero}
 use native.Mathlib.Numerals.{add-one}
 use native.Mathlib.Omega.{arith}
 use lib.Dec.{eqb, ltb, leb}
@@ -43,9 +43,6 @@ leads h l r = read_as (λ x. first_open h (x ∷ r)) l ∙ itself (eqb (get_or l
 
 abbrev pub Rises : ℕ → List ℕ → ℕ → ℕ → ℕ → Type 0
 Rises h x n i lo = rising 0 h (get_many entry n x) ≡ rising lo h (get_many entry (n - i) (drop (ENTRY_SIZE * i) x))
-
-pub rises_start : (h : ℕ) (x : List ℕ) (n : ℕ) → Rises h x n 0 0
-rises_start h x n = rw sub-zero
 
 module _ (h : ℕ) (x : List ℕ) (n i lo : ℕ) (inv : Rises h x n i lo) where
   module _ (k : i < n) {t : ℕ} (e : t ≡ num 2 (ENTRY_SIZE * i) x) where

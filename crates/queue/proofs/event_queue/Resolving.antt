@@ -1,9 +1,9 @@
 -- The entry that carries a token resolved: the first one, which empties the queue and hands out the complete ones, or a later one, which waits.
 -- Assumes nothing.
+use Rattle.std.specs.Prelude.{Option, Some, None}
 use mathlib.Core.Path.{◌≡◌, refl, sym, ap, ◌∙◌}
 use mathlib.Core.Bool.{Bool, true, false}
 use mathlib.Core.List.{List, [], ◌∷◌}
-use mathlib.Core.Option.{Option, some, none}
 use Prim.Native.Nat.{ℕ, suc, ◌+◌, ◌*◌, ◌<◌}
 use native.Mathlib.Omega.{arith}
 use lib.Dec.{eqb}
@@ -79,13 +79,13 @@ module _ (x : List ℕ) (b : (i : ℕ) → get_or x i 0 < 256) (t place : ℕ) (
       (v : Event) → event_fits v ≡ true → (y : List ℕ) → length y ≡ AREA → place ≡ 0 → {j m n : ℕ} {x₁ y₁ y₂ z w : List ℕ} →
       (x₁ ≡ x) × (y₁ ≡ splice ANSWER_EVENTS_AT (event.put v) y) → Written j (drain (drop m (decode x₁).entries)) y₁ y₂ n →
       z ≡ zero_from (ANSWER_EVENTS_AT + ANSWER_EVENT_SIZE * n) (splice 0 (le 2 n) y₂) → w ≡ encode (emptied (decode x₁)) →
-      j ≡ 1 → m ≡ 1 → Does (resolved_by (decode x) t (some v)) w z
+      j ≡ 1 → m ≡ 1 → Does (resolved_by (decode x) t (Some v)) w z
   unfolding put_many all_fit in_place drain
   first_completed v f y l p {j} {m} {n} {x₁} {y₁} {y₂} q₁ q₂ q₃ q₄ u₂ u₃ =
       let s = decode x in
       let e = q₁.0 in
       let d = drain (drop 1 s.entries) in
-      let w = first_leaves s t (some v) s.entries refl (sym a.found ∙ p) some_entry in
+      let w = first_leaves s t (Some v) s.entries refl (sym a.found ∙ p) some_entry in
       let i : length (event.put v) ≡ ANSWER_EVENT_SIZE = event-sound.sized v f ∙ event-width in
       let g : Handing (v ∷ d) y y₂ = chain 2 ANSWER_EVENT_SIZE (event.put v) (put_many event d) y i q₁.1 (q₂.bytes ∙ rw (u₂, u₃, e) refl) in
       let c : n ≡ suc (length d) = q₂.count ∙ rw (u₂, u₃, e) (omega arith) in
@@ -95,12 +95,12 @@ module _ (x : List ℕ) (b : (i : ℕ) → get_or x i 0 < 256) (t place : ℕ) (
   pub first_removed :
       (y : List ℕ) → length y ≡ AREA → place ≡ 0 → {j m n : ℕ} {y₂ z w : List ℕ} → Written j (drain (drop m (decode x).entries)) y y₂ n →
       z ≡ zero_from (ANSWER_EVENTS_AT + ANSWER_EVENT_SIZE * n) (splice 0 (le 2 n) y₂) → w ≡ encode (emptied (decode x)) → j ≡ 0 → m ≡ 1 →
-      Does (resolved_by (decode x) t none) w z
+      Does (resolved_by (decode x) t None) w z
   unfolding in_place
   first_removed y l p {j} {m} {n} {y₂} q₂ q₃ q₄ u₂ u₃ =
       let s = decode x in
       let d = drain (drop 1 s.entries) in
-      let w = first_leaves s t none s.entries refl (sym a.found ∙ p) some_entry in
+      let w = first_leaves s t None s.entries refl (sym a.found ∙ p) some_entry in
       let g : Handing d y y₂ = q₂.bytes ∙ rw (u₂, u₃) refl in
       let c : n ≡ length d = q₂.count ∙ rw (u₂, u₃) (omega arith) in
       record { session = q₄ ∙ sym (ap encode w.0); answers = ended d y rest_fit (omega (arith, rest_most)) l g q₃ c ∙ sym (ap encode_answer w.1) }

@@ -1,9 +1,9 @@
 -- The event of the held press from its parts, each written where it goes, from the last to the first.
 -- Assumes nothing.
+use Rattle.std.specs.Prelude.{Option, None}
 use mathlib.Core.Path.{◌≡◌, refl, sym, ap, subst, ◌∙◌}
 use mathlib.Core.Bool.{Bool, true, false, not}
 use mathlib.Core.List.{List, ◌++◌}
-use mathlib.Core.Option.{Option, none}
 use Prim.Native.Nat.{ℕ, ◌+◌, ◌≤◌, ◌<◌, zero-le}
 use native.Mathlib.Omega.{arith}
 use lib.ListN.{length, get_or, replicate, length-append}
@@ -55,7 +55,7 @@ event_of_parts h k t =
     ap (λ (r : List ℕ). key_code.put (key_code_of h.info.scancode) ++ ((full_key TEXT_MOST).put k ++ (opt_text.put t ++ r)))
     (sym (marks_first (pair opt_text (full_key KEY_TEXT_MOST)) h.info.location Pressed h.info.repeat false (typed_text h.units, h.info.key_without_modifiers)))
 
-pub no_text : replicate 49 0 ≡ opt_text.put none
+pub no_text : replicate 49 0 ≡ opt_text.put None
 unfolding opt_text via text_bytes checked list_of byte put_many le padded
 no_text = refl
 
@@ -143,12 +143,12 @@ unmarked : (m : Bool) (k u : FullKey) → pick (not m) k u ≡ pick m u k
 unmarked true k u = refl
 unmarked false k u = refl
 
-dead-event : (h : Held) → completed_with h (known_key (not h.mark) h) none ≡ dead_char_event h
+dead-event : (h : Held) → completed_with h (known_key (not h.mark) h) None ≡ dead_char_event h
 unfolding completed_with dead_char_event finalize typed_key
 dead-event h =
-    ap (λ (k : FullKey). completed_with h k none) (unmarked h.mark h.info.logical_key (unidentified (Windows h.info.scancode)))
+    ap (λ (k : FullKey). completed_with h k None) (unmarked h.mark h.info.logical_key (unidentified (Windows h.info.scancode)))
 
-no_size : length (opt_text.put none) ≡ 49
+no_size : length (opt_text.put None) ≡ 49
 no_size = sym (ap length no_text)
 
 -- ---- the bytes behind the text, one by one
@@ -220,11 +220,11 @@ module _
 
   -- the event of a dead character: no text
   module _ {x₂ y₂ : List ℕ} (zeros : FieldStands place 62 (replicate 49 0) x₁ y₁ x₂ y₂) where
-    no_text-stands : FieldStands place 62 (opt_text.put none) x₁ y₁ x₂ y₂
+    no_text-stands : FieldStands place 62 (opt_text.put None) x₁ y₁ x₂ y₂
     no_text-stands = stands_as place 62 no_text zeros
 
     pub after_no_text : Completing x₂ y₂ place × (held_in x₂ ≡ held_in x)
-    after_no_text = after_text none no_size no_text-stands
+    after_no_text = after_text None no_size no_text-stands
 
     module _
         {x₃ y₃ : List ℕ} (known : Bool) (key : FieldStands place 6 ((full_key TEXT_MOST).put (known_key known (held_in x₂))) x₂ y₂ x₃ y₃) where
@@ -235,15 +235,15 @@ module _
       known_length = known_size (held_in x).info.logical_key _ known (key-size b c) (unidentified-size (held_in x).info.scancode)
 
       pub after_known : Completing x₃ y₃ place × (held_in x₃ ≡ held_in x)
-      after_known = after-key none no_size no_text-stands (known_key known (held_in x)) known_length known_stands
+      after_known = after-key None no_size no_text-stands (known_key known (held_in x)) known_length known_stands
 
       pub dead-stands :
           {x₄ y₄ : List ℕ} → known ≡ not (held_in x).mark →
           FieldStands place 0 (key_code.put (key_code_of (held_in x₃).info.scancode)) x₃ y₃ x₄ y₄ →
           EventStands place (dead_char_event (held_in x)) x y x₄ y₄
       dead-stands e p =
-          stands_as place 0 (ap (λ (k : Bool). event.put (completed_with (held_in x) (known_key k (held_in x)) none)) e ∙ ap event.put (dead-event (held_in x)))
-          (event-stands none no_size no_text-stands (known_key known (held_in x)) known_length known_stands p)
+          stands_as place 0 (ap (λ (k : Bool). event.put (completed_with (held_in x) (known_key k (held_in x)) None)) e ∙ ap event.put (dead-event (held_in x)))
+          (event-stands None no_size no_text-stands (known_key known (held_in x)) known_length known_stands p)
 
   -- that of the last character
   module _

@@ -1,11 +1,11 @@
 -- Loops over the entries of an area: the place of a token, the latest open message.
 -- Assumes nothing.
+use Rattle.std.specs.Prelude.{Option, Some, None}
 use mathlib.Core.Path.{◌≡◌, refl, sym, ◌∙◌}
-use mathlib.Core.Bool.{Bool, false}
+use mathlib.Core.Bool.{Bool}
 use mathlib.Core.List.{List, ◌∷◌}
-use mathlib.Core.Option.{Option, some, none}
 use Prim.Native.Nat.{ℕ, suc, ◌+◌, ◌-◌, ◌*◌, ◌≤◌, ◌<◌}
-use native.Mathlib.Nat.{add-zero, zero-add}
+use native.Mathlib.Nat.{add-zero}
 use native.Mathlib.Numerals.{add-one}
 use native.Mathlib.Omega.{arith}
 use lib.Dec.{eqb}
@@ -38,9 +38,6 @@ module _ (x : List ℕ) (b : (i : ℕ) → get_or x i 0 < 256) (r : IsArea x) wh
 abbrev pub Sought : ℕ → List ℕ → ℕ → Type 0
 Sought t x i = place_of_token t (decode x).entries ≡ i + place_of_token t (drop i (decode x).entries)
 
-pub sought_start : (t : ℕ) (x : List ℕ) → Sought t x 0
-sought_start t x = rw zero-add
-
 module _ (t : ℕ) (x : List ℕ) (i : ℕ) (inv : Sought t x i) where
   module _ (h : i < length (decode x).entries) {u k : ℕ} (e : u ≡ token_of (entry.get (take (length x - k) (drop k x)))) (f : k ≡ ENTRIES_AT + ENTRY_SIZE * i) where
     here : place_of_token t (decode x).entries ≡ i + pick (eqb t u) 0 (suc (place_of_token t (drop (i + 1) (decode x).entries)))
@@ -55,23 +52,15 @@ module _ (t : ℕ) (x : List ℕ) (i : ℕ) (inv : Sought t x i) where
     pub sought_next : (u ≡ t → ⊥) → Sought t x (i + 1)
     sought_next a = let p = rw (ne_eqb t u (λ b. a (sym b))) at here in omega arith
 
-  pub sought_end : length (decode x).entries ≤ i → i ≡ place_of_token t (decode x).entries
-  unfolding place_of_token
-  sought_end h = sym (inv ∙ rw (drop_of_length-le (decode x).entries h, add-zero))
-
 -- ---- the latest open message: a loop that has come to entry i, b the answer if no entry from there on is open
 
 abbrev pub is_token_or : Bool → ℕ → Option ℕ → Bool
-is_token_or b t none = b
-is_token_or b t (some u) = eqb t u
-
-is_token-or : (t : ℕ) (o : Option ℕ) → is_token t o ≡ is_token_or false t o
-is_token-or t none = refl
-is_token-or t (some u) = refl
+is_token_or b t None = b
+is_token_or b t (Some u) = eqb t u
 
 latest-or : (b : Bool) (t u : ℕ) (o : Option ℕ) → is_token_or b t (latest o u) ≡ is_token_or (eqb t u) t o
-latest-or b t u none = refl
-latest-or b t u (some v) = refl
+latest-or b t u None = refl
+latest-or b t u (Some v) = refl
 
 last-read :
     (b : Bool) (t : ℕ) (l : List ℕ) (r : List Entry) →
@@ -81,9 +70,6 @@ last-read b t l r = read_as (λ y. is_token_or b t (last_token (y ∷ r))) l ∙
 
 abbrev pub Latest : ℕ → List ℕ → ℕ → Bool → Type 0
 Latest t x i b = is_token t (last_token (decode x).entries) ≡ is_token_or b t (last_token (drop i (decode x).entries))
-
-pub latest-start : (t : ℕ) (x : List ℕ) → Latest t x 0 false
-latest-start t x = is_token-or t (last_token (decode x).entries)
 
 module _ (t : ℕ) (x : List ℕ) (i : ℕ) (b : Bool) (inv : Latest t x i b) where
   module _ (h : i < length (decode x).entries) where

@@ -1,9 +1,9 @@
 -- The first entry that carries a token, completed or dropped in a session's area; and the queue emptied.
 -- Assumes nothing.
+use Rattle.std.specs.Prelude.{Option, Some, None}
 use mathlib.Core.Path.{◌≡◌, refl, sym, ap, ◌∙◌}
 use mathlib.Core.Bool.{Bool, true, false}
 use mathlib.Core.List.{List, [], ◌∷◌, ◌++◌}
-use mathlib.Core.Option.{Option, some, none}
 use Prim.Native.Nat.{ℕ, suc, ◌+◌, ◌-◌, ◌*◌, ◌<◌}
 use native.Mathlib.Omega.{arith}
 use lib.Dec.{eqb}
@@ -102,7 +102,7 @@ module _ (x : List ℕ) (b : (i : ℕ) → get_or x i 0 < 256) where
 
     pub completed :
         (v : Event) → event_fits v ≡ true → {k n : ℕ} {y : List ℕ} → y ≡ splice k (entry.put (complete n v)) x → k ≡ ENTRIES_AT + ENTRY_SIZE * place → n ≡ t →
-        y ≡ encode (with_resolved (decode x) t (some v))
+        y ≡ encode (with_resolved (decode x) t (Some v))
     unfolding entry_fits in_place
     completed v g {k} p u w =
         let s = decode x in
@@ -111,12 +111,12 @@ module _ (x : List ℕ) (b : (i : ℕ) → get_or x i 0 < 256) where
         p
         ∙ ap (λ (m : ℕ). splice k (entry.put (complete m v)) x) w
         ∙ ap (λ (l : List ℕ). splice k (entry.put (complete t v)) l) (sym o.1)
-        ∙ rw (u, a.found, f.place, f.solved (some v)) (entry_over s o.0 f.front f.one f.back f.split (complete t v) (token_below, g))
+        ∙ rw (u, a.found, f.place, f.solved (Some v)) (entry_over s o.0 f.front f.one f.back f.split (complete t v) (token_below, g))
 
     pub dropped :
         {n k₁ k₂ k₃ g c : ℕ} {y z w : List ℕ} → y ≡ splice k₁ (take c (drop (k₁ + g) x)) x → z ≡ splice k₂ (replicate ENTRY_SIZE 0) y → w ≡ splice COUNT_AT (le 2 k₃) z →
         n ≡ length (decode x).entries → k₁ ≡ ENTRIES_AT + ENTRY_SIZE * place → g ≡ ENTRY_SIZE → c ≡ ENTRY_SIZE * (n - 1 - place) → k₂ ≡ ENTRIES_AT + ENTRY_SIZE * (n - 1) → k₃ ≡ n - 1 →
-        w ≡ encode (with_resolved (decode x) t none)
+        w ≡ encode (with_resolved (decode x) t None)
     unfolding in_place
     dropped {n} {k₁} {k₂} {k₃} {g} {c} {y} {z} p q w i u₁ u₂ u₃ u₄ u₅ =
         let s = decode x in
@@ -132,4 +132,4 @@ module _ (x : List ℕ) (b : (i : ℕ) → get_or x i 0 < 256) where
         let v₅ : k₃ ≡ n₁ + d = omega arith in
         let y' : y ≡ splice (ENTRIES_AT + ENTRY_SIZE * n₁) (take (ENTRY_SIZE * d) (drop (ENTRIES_AT + ENTRY_SIZE * n₁ + ENTRY_SIZE) (encode s))) (encode s) = p ∙ rw (v₁, u₂, v₃, o.1) refl in
         let z' : z ≡ splice (ENTRIES_AT + ENTRY_SIZE * (n₁ + d)) (replicate ENTRY_SIZE 0) y = q ∙ rw v₄ refl in
-        w ∙ rw (v₅, f.solved none) (entry-drop s o.0 f.front f.one f.back f.split y' z')
+        w ∙ rw (v₅, f.solved None) (entry-drop s o.0 f.front f.one f.back f.split y' z')

@@ -1,9 +1,9 @@
 -- The bytes of an event without texts, written from the last field to the first; the event of a release.
 -- Assumes nothing.
+use Rattle.std.specs.Prelude.{Option, None}
 use mathlib.Core.Path.{◌≡◌, refl, sym, ap, ◌∙◌}
 use mathlib.Core.Bool.{Bool, true, false}
 use mathlib.Core.List.{List, ◌++◌, append_assoc}
-use mathlib.Core.Option.{Option, none}
 use Prim.Native.Nat.{ℕ, ◌+◌, ◌≤◌, ◌<◌}
 use native.Mathlib.Omega.{arith}
 use native.Mathlib.Nat.{add-zero}
@@ -30,7 +30,7 @@ use Rattle.record.proofs.Records.{marks, info_parts, info_got}
 use Rattle.record.proofs.Written.{both, pair-length, written_as, code-length, marks_first, marks_length}
 use Rattle.record.proofs.complete.Keys.{key_kept, key_still, logical_size}
 
-no_text : opt_text.put none ≡ replicate 49 0
+no_text : opt_text.put None ≡ replicate 49 0
 unfolding opt_text via text_bytes checked list_of byte put_many le padded
 no_text = refl
 
@@ -42,16 +42,16 @@ middle = pair opt_text (pair marks opt_text)
 pub middle_written :
     (l : KeyLocation) (s : ElementState) (b : Bool) (at : ℕ) (x : List ℕ) {d : Bool} {k₁ k₂ : ℕ} {zs₁ zs₂ y₁ y₂ y₃ : List ℕ} →
     y₁ ≡ splice at zs₁ x → y₂ ≡ splice k₁ (marks.put (l, (s, (b, d)))) y₁ → y₃ ≡ splice k₂ zs₂ y₂ → zs₁ ≡ replicate 49 0 → zs₂ ≡ replicate 49 0 →
-    d ≡ false → k₁ ≡ at + 49 → k₂ ≡ at + 53 → y₃ ≡ splice at (middle.put (none, ((l, (s, (b, false))), none))) x
+    d ≡ false → k₁ ≡ at + 49 → k₂ ≡ at + 53 → y₃ ≡ splice at (middle.put (None, ((l, (s, (b, false))), None))) x
 middle_written l s b at x {d} {k₁} {k₂} {zs₁} {zs₂} {y₁} {y₂} p₁ p₂ p₃ e₁ e₂ ed f₁ f₂ =
-    both opt_text (pair marks opt_text) none ((l, (s, (b, false))), none) at 49 k₁ x (ap length no_text) f₁ (written_as at x (e₁ ∙ sym no_text) p₁)
-    (both marks opt_text (l, (s, (b, false))) none k₁ 4 k₂ y₁ (marks_length l s b false) (omega arith)
+    both opt_text (pair marks opt_text) None ((l, (s, (b, false))), None) at 49 k₁ x (ap length no_text) f₁ (written_as at x (e₁ ∙ sym no_text) p₁)
+    (both marks opt_text (l, (s, (b, false))) None k₁ 4 k₂ y₁ (marks_length l s b false) (omega arith)
     (p₂ ∙ ap (λ (c : Bool). splice k₁ (marks.put (l, (s, (b, c)))) y₁) ed) (written_as k₂ y₂ (e₂ ∙ sym no_text) p₃))
 
-middle_length : (m : KeyLocation × (ElementState × (Bool × Bool))) → length (middle.put (none, (m, none))) ≡ 102
+middle_length : (m : KeyLocation × (ElementState × (Bool × Bool))) → length (middle.put (None, (m, None))) ≡ 102
 middle_length m =
-    pair-length opt_text (pair marks opt_text) none (m, none) 49 53 (ap length no_text)
-    (pair-length marks opt_text m none 4 49 (marks_length m.0 m.1.0 m.1.1.0 m.1.1.1) (ap length no_text))
+    pair-length opt_text (pair marks opt_text) None (m, None) 49 53 (ap length no_text)
+    (pair-length marks opt_text m None 4 49 (marks_length m.0 m.1.0 m.1.1.0 m.1.1.1) (ap length no_text))
 
 -- ---- the whole event
 
@@ -67,32 +67,32 @@ module _ (c : KeyCode) (l : FullKey) (p : KeyLocation) (s : ElementState) (b : B
       record {
         physical_key = c;
         logical_key = l;
-        text = none;
+        text = None;
         location = p;
         state = s;
         repeat = b;
         synthetic = false;
-        text_with_all_modifiers = none;
+        text_with_all_modifiers = None;
         key_without_modifiers = w;
       }
 
   event_parts :
-      key_code.put c ++ ((full_key TEXT_MOST).put l ++ (middle.put (none, ((p, (s, (b, false))), none)) ++ (full_key KEY_TEXT_MOST).put w)) ≡ event.put untyped
+      key_code.put c ++ ((full_key TEXT_MOST).put l ++ (middle.put (None, ((p, (s, (b, false))), None)) ++ (full_key KEY_TEXT_MOST).put w)) ≡ event.put untyped
   unfolding event via pair
   event_parts =
-      let t = opt_text.put none in
+      let t = opt_text.put None in
       let m = marks.put (p, (s, (b, false))) in
       let r = (full_key KEY_TEXT_MOST).put w in
       ap (λ (y : List ℕ). key_code.put c ++ ((full_key TEXT_MOST).put l ++ y))
-      (append_assoc t (m ++ t) r ∙ ap (λ (y : List ℕ). t ++ y) (append_assoc m t r ∙ marks_first (pair opt_text (full_key KEY_TEXT_MOST)) p s b false (none, w)))
+      (append_assoc t (m ++ t) r ∙ ap (λ (y : List ℕ). t ++ y) (append_assoc m t r ∙ marks_first (pair opt_text (full_key KEY_TEXT_MOST)) p s b false (None, w)))
 
   pub event-written :
       (at : ℕ) (x : List ℕ) {k₁ k₂ k₃ : ℕ} {y₁ y₂ y₃ y₄ : List ℕ} → length ((full_key TEXT_MOST).put l) ≡ 56 →
-      y₁ ≡ splice k₃ ((full_key KEY_TEXT_MOST).put w) x → y₂ ≡ splice k₂ (middle.put (none, ((p, (s, (b, false))), none))) y₁ →
+      y₁ ≡ splice k₃ ((full_key KEY_TEXT_MOST).put w) x → y₂ ≡ splice k₂ (middle.put (None, ((p, (s, (b, false))), None))) y₁ →
       y₃ ≡ splice k₁ ((full_key TEXT_MOST).put l) y₂ → y₄ ≡ splice at (key_code.put c) y₃ → k₁ ≡ at + 6 → k₂ ≡ at + 62 → k₃ ≡ at + 164 →
       y₄ ≡ splice at (event.put untyped) x
   event-written at x {k₁} {k₂} {k₃} h p₁ p₂ p₃ p₄ f₁ f₂ f₃ =
-      let m = middle.put (none, ((p, (s, (b, false))), none)) in
+      let m = middle.put (None, ((p, (s, (b, false))), None)) in
       let r = (full_key KEY_TEXT_MOST).put w in
       let k = (full_key TEXT_MOST).put l in
       down at 6 k₁ (key_code.put c) (k ++ (m ++ r)) x (code-length c) f₁
@@ -135,7 +135,7 @@ module _ (x : List ℕ) (b : (i : ℕ) → get_or x i 0 < 256) (from : ℕ) (h :
       (at : ℕ) (d : List ℕ) {v k₁ k₂ k₃ : ℕ} {c : KeyCode} {r : Bool} {p : KeyLocation} {l : FullKey} {y₁ y₂ y₃ y₄ : List ℕ} →
       v ≡ num 2 from x → c ≡ key_code_of v → r ≡ eqb (get_or x (from + 2) 0) 1 → p ≡ location_at (get_or x (from + 3) 0) →
       l ≡ (full_key KEY_TEXT_MOST).get (drop (from + 4) x) → y₁ ≡ splice k₃ (take 32 (drop (from + 36) x)) d →
-      y₂ ≡ splice k₂ (middle.put (none, ((p, (Released, (r, false))), none))) y₁ → y₃ ≡ splice k₁ ((full_key TEXT_MOST).put l) y₂ →
+      y₂ ≡ splice k₂ (middle.put (None, ((p, (Released, (r, false))), None))) y₁ → y₃ ≡ splice k₁ ((full_key TEXT_MOST).put l) y₂ →
       y₄ ≡ splice at (key_code.put c) y₃ → k₁ ≡ at + 6 → k₂ ≡ at + 62 → k₃ ≡ at + 164 →
       y₄ ≡ splice at (event.put (release_event (info.get (drop from x)))) d
   release-written at d {v} {k₁} {k₂} {k₃} {c} {r} {p} {l} ev ec er ep el p₁ p₂ p₃ p₄ f₁ f₂ f₃ =
@@ -165,7 +165,7 @@ module _ (x : List ℕ) (b : (i : ℕ) → get_or x i 0 < 256) (at : ℕ) (h : a
   pub release_completed :
       {v : ℕ} {c : KeyCode} {r : Bool} {p : KeyLocation} {y₁ y₂ y₃ y₄ : List ℕ} → v ≡ num 2 (at + 5) x → c ≡ key_code_of v →
       r ≡ eqb (get_or x (at + 7) 0) 1 → p ≡ location_at (get_or x (at + 8) 0) → y₁ ≡ splice (at + 41 + 126) (take 32 (drop (at + 41) x)) x →
-      y₂ ≡ splice (at + 65) (middle.put (none, ((p, (Released, (r, false))), none))) y₁ →
+      y₂ ≡ splice (at + 65) (middle.put (None, ((p, (Released, (r, false))), None))) y₁ →
       y₃ ≡ splice (at + 9 + 0) ((full_key TEXT_MOST).put ((full_key KEY_TEXT_MOST).get (drop (at + 9) y₂))) y₂ → y₄ ≡ splice (at + 3) (key_code.put c) y₃ →
       y₄ ≡ splice (at + 3) (event.put (release_event (info.get (drop (at + 5) x)))) x
   release_completed ev ec er ep p₁ p₂ p₃ p₄ =

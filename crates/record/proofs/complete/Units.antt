@@ -6,16 +6,17 @@ use mathlib.Core.List.{List, [], ◌∷◌, ◌++◌, append_assoc, append-nil}
 use Prim.Native.Nat.{ℕ, ◌+◌, ◌-◌, ◌*◌, ◌≤◌, ◌<◌}
 use native.Mathlib.Nat.{add-zero, mod-eq_of_lt}
 use native.Mathlib.Omega.{arith}
-use lib.ListN.{length, take, drop, get_or, replicate, length-append, length-replicate}
+use lib.ListN.{length, drop, get_or, replicate, length-append, length-replicate}
 use lib.Seq.{get_or-drop}
+use Rattle.std.specs.Prelude.{Option, None, Some}
 use Rattle.area.specs.Bytes.{le}
 use Rattle.area.specs.Splice.{splice, padded}
 use Rattle.area.proofs.Bytes.{length-le}
 use Rattle.area.proofs.Splice.{chain, length-splice, splice-within, splice-behind, over_zeros}
 use Rattle.text.specs.Message.{char_units}
-use Rattle.text.specs.Stored.{two_units, units_in}
+use Rattle.text.specs.Stored.{two_units, unit_in, units_in}
 use Rattle.text.specs.declared.CharUnits.{CharUnits}
-use Rattle.text.proofs.Message.{char-units_back}
+use Rattle.text.proofs.Message.{added_units, added_count}
 use Rattle.session.specs.Limits.{UNITS_MOST, HELD_SIZE}
 use Rattle.session.specs.Event.{Held}
 use Rattle.session.specs.Codec.{number, pair, via, put_many, list_of}
@@ -28,29 +29,23 @@ use Rattle.record.proofs.complete.Kept.{kept_length, stands}
 
 -- ---- the units of a character message
 
-pub one_unit : (a : CharUnits) (at : ℕ) (x : List ℕ) {y : List ℕ} → a.len ≡ 1 → y ≡ splice at (le 2 a.first) x → y ≡ splice at (put_many (number 2) (units_in a)) x
+pub one_unit :
+    (a : CharUnits) (at : ℕ) (x : List ℕ) {y : List ℕ} → a.second ≡ None → y ≡ splice at (le 2 a.first) x →
+    y ≡ splice at (put_many (number 2) (units_in a)) x
 unfolding put_many number
 one_unit a at x e p =
     p
     ∙ ap (λ (t : List ℕ). splice at t x) (sym (append-nil (le 2 a.first)))
-    ∙ sym (ap (λ (n : ℕ). splice at (put_many (number 2) (take n (a.first ∷ a.second ∷ []))) x) e)
+    ∙ sym (ap (λ (o : Option ℕ). splice at (put_many (number 2) (a.first ∷ unit_in o)) x) e)
 
 pub two-units :
-    (a : CharUnits) (at : ℕ) (x : List ℕ) {y z : List ℕ} → a.len ≡ 2 → y ≡ splice at (le 2 a.first) x → z ≡ splice (at + 2) (le 2 a.second) y →
-    z ≡ splice at (put_many (number 2) (units_in a)) x
+    (a : CharUnits) (v at : ℕ) (x : List ℕ) {y z : List ℕ} → a.second ≡ Some v → y ≡ splice at (le 2 a.first) x →
+    z ≡ splice (at + 2) (le 2 v) y → z ≡ splice at (put_many (number 2) (units_in a)) x
 unfolding put_many number
-two-units a at x e p q =
-    chain at 2 (le 2 a.first) (le 2 a.second) x (length-le 2 a.first) p q
-    ∙ ap (λ (t : List ℕ). splice at (le 2 a.first ++ t) x) (sym (append-nil (le 2 a.second)))
-    ∙ sym (ap (λ (n : ℕ). splice at (put_many (number 2) (take n (a.first ∷ a.second ∷ []))) x) e)
-
-module _ (w : ℕ) (a : CharUnits) (e : a ≡ two_units (char_units w)) where
-  pub added_count : a.len ≡ length (char_units w)
-  unfolding two_units
-  added_count = ap (λ (b : CharUnits). b.len) e
-
-  pub added_units : units_in a ≡ char_units w
-  added_units = ap (λ (b : CharUnits). units_in b) e ∙ char-units_back w
+two-units a v at x e p q =
+    chain at 2 (le 2 a.first) (le 2 v) x (length-le 2 a.first) p q
+    ∙ ap (λ (t : List ℕ). splice at (le 2 a.first ++ t) x) (sym (append-nil (le 2 v)))
+    ∙ sym (ap (λ (o : Option ℕ). splice at (put_many (number 2) (a.first ∷ unit_in o)) x) e)
 
 -- ---- the bytes of units: their number, two bytes for each, zeros behind
 
@@ -156,13 +151,18 @@ module _ (x : List ℕ) (b : (i : ℕ) → get_or x i 0 < 256) (at : ℕ) (h : a
       ∙ many_count (number 2) (get_or (drop at x) 71 0) (drop 72 (drop at x))
       ∙ get_or-drop at x 71 0
 
+  pub few_units :
+      (w : ℕ) (a : CharUnits) → a ≡ two_units (char_units w) → length (held.get (drop at x)).units + length (char_units w) ≤ UNITS_MOST →
+      get_or x (at + 71) 0 + length (units_in a) ≤ UNITS_MOST
+  few_units w a e m = omega (arith, units-count, added_count w a e)
+
   held-size : length (held.put (held.get (drop at x))) ≡ HELD_SIZE
   held-size = kept_length held-sound HELD_SIZE held-width x b at h o
 
   pub units-written :
       (w : ℕ) (a : CharUnits) → a ≡ two_units (char_units w) → length (held.get (drop at x)).units + length (char_units w) ≤ UNITS_MOST →
       {n k₁ k₂ t : ℕ} {y z : List ℕ} → y ≡ splice k₁ (put_many (number 2) (units_in a)) x → z ≡ splice k₂ (t ∷ []) y → n ≡ get_or x (at + 71) 0 →
-      k₁ ≡ at + 72 + 2 * n → k₂ ≡ at + 71 → t ≡ n + a.len →
+      k₁ ≡ at + 72 + 2 * n → k₂ ≡ at + 71 → t ≡ n + length (units_in a) →
       z ≡ splice at (held.put (with_units (held.get (drop at x)) (char_units w))) x
   units-written w a e m {n} {k₁} {k₂} {t} {y} {z} p q en e₁ e₂ et =
       let g = held.get (drop at x) in

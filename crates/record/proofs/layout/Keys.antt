@@ -34,10 +34,6 @@ use Rattle.record.proofs.Written.{both, text-put, numbers_length}
 
 -- ---- a key
 
--- the text in a key whose case is known
-pub own_in : (p : List ℕ) {k x : Key} → k ≡ x → text_in (full x p) ≡ text_in (full k p)
-own_in p e = ap (λ (y : Key). text_in (full y p)) (sym e)
-
 -- a key with the text that it has is itself
 pub with_own : (k : Key) (p : List ℕ) {t : List ℕ} → t ≡ text_in (full k p) → full k t ≡ full k p
 with_own k p e =
@@ -135,18 +131,6 @@ scalar-written c at x {n} {k₁} {k₂} {v} {y₁} {y₂} {y₃} p q r en e₁ e
     ∙ ap (λ (b : List ℕ). splice at b x) (over_key t (omega arith) ∙ sym (character-put t (omega arith)))
 
 -- ---- a dead key
-
-pub undead_none : (k : Key) (p : List ℕ) → k ≡ Dead → full (Unidentified native-code.Unidentified) [] ≡ undead (full k p)
-unfolding full undead
-undead_none k p e = sym (ap (λ (x : Key). undead (full x p)) e)
-
-pub undead_some : (k : Key) (p : List ℕ) (c : ℕ) → k ≡ DeadChar c → character (utf8_of c) ≡ undead (full k p)
-unfolding full undead
-undead_some k p c e = sym (ap (λ (x : Key). undead (full x p)) e)
-
--- another key stays
-pub undead-same : (k x : Key) (p : List ℕ) → k ≡ x → undead (full x p) ≡ full x p → full k p ≡ undead (full k p)
-undead-same k x p e same = ap (λ (y : Key). full y p) e ∙ sym same ∙ sym (ap (λ (y : Key). undead (full y p)) e)
 
 -- the character of a dead one fits too
 pub undead-within : (k : FullKey) → KeyFits k → length (text_in (undead k)) ≤ KEY_TEXT_MOST

@@ -1,9 +1,9 @@
 -- The bytes of what is read from the layout, part by part.
 -- Assumes nothing.
+use Rattle.std.specs.Prelude.{Some}
 use mathlib.Core.Path.{◌≡◌, refl, sym, ap, subst, ◌∙◌}
 use mathlib.Core.Bool.{Bool}
 use mathlib.Core.List.{List, [], ◌∷◌}
-use mathlib.Core.Option.{some}
 use Prim.Native.Nat.{ℕ, ◌+◌, ◌*◌}
 use native.Mathlib.Omega.{arith}
 use lib.ListN.{length, replicate}
@@ -173,7 +173,7 @@ pub held-written :
     length (info.put h.info) ≡ INFO_SIZE → h.units ≡ [] → y₁ ≡ splice at (a ∷ []) x → y₂ ≡ splice k₁ (info.put h.info) y₁ →
     y₃ ≡ splice k₂ (le 2 h.vkey) y₂ → y₄ ≡ splice k₃ (flag.put h.mark) y₃ → y₅ ≡ splice k₄ zs y₄ → a ≡ 1 →
     zs ≡ replicate (1 + 2 * UNITS_MOST) 0 → k₁ ≡ at + 1 → k₂ ≡ at + 69 → k₃ ≡ at + 71 → k₄ ≡ at + 72 →
-    y₅ ≡ splice at (held_field.put (some h)) x
+    y₅ ≡ splice at (held_field.put (Some h)) x
 unfolding held via
 held-written h at x {a} {k₁} {k₂} {k₃} {k₄} {zs} {y₁} {y₂} {y₃} {y₄} l u p₁ p₂ p₃ p₄ p₅ ea ez f₁ f₂ f₃ f₄ =
     let units = list_of 1 UNITS_MOST (number 2) in

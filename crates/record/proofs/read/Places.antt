@@ -1,9 +1,9 @@
 -- What an entry and the area hold, by what they are told to hold, and where it stands.
 -- Assumes nothing.
+use Rattle.std.specs.Prelude.{Some}
 use mathlib.Core.Path.{◌≡◌, refl, sym, ap, ◌∙◌}
 use mathlib.Core.Bool.{Bool, true, false, not, and-eq-true_iff}
 use mathlib.Core.List.{List}
-use mathlib.Core.Option.{some}
 use Prim.Native.Nat.{ℕ}
 use lib.Dec.{eqb}
 use lib.ListN.{drop, get_or}
@@ -143,7 +143,7 @@ module _ (x : List ℕ) where
     mark : unset x 2 ≡ false
     mark = held-mark (unset x 2) (sym is-held ∙ e)
 
-    pub held_at : (decode x).held ≡ some (held.get (drop 3 x))
+    pub held_at : (decode x).held ≡ Some (held.get (drop 3 x))
     held_at = rw ((decode_got x).1, mark)
 
     pub held-ok : session_ok x ≡ true → held.ok (drop 3 x) ≡ true

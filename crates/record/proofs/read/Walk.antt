@@ -4,7 +4,7 @@ use mathlib.Core.Path.{◌≡◌, refl, sym, ◌∙◌}
 use mathlib.Core.Bool.{Bool, true, false, and-eq-true_iff}
 use mathlib.Core.List.{List, ◌∷◌}
 use Prim.Native.Nat.{ℕ, zero, suc, ◌+◌, ◌-◌, ◌*◌, ◌≤◌, ◌<◌}
-use native.Mathlib.Nat.{mul-add, mul-one, mul-zero, zero-add, add-zero, sub-zero, zero-sub}
+use native.Mathlib.Nat.{mul-add, mul-one, mul-zero, add-zero, sub-zero, zero-sub}
 use native.Mathlib.Numerals.{add-one, unary_clauses}
 use native.Mathlib.Omega.{arith}
 use lib.Dec.{eqb}
@@ -97,9 +97,6 @@ opens l r = read_as (λ x. open_count (x ∷ r)) l
 
 abbrev pub Opens : List ℕ → ℕ → ℕ → ℕ → Type 0
 Opens x n i k = (k ≤ i) × (open_count (get_many entry n x) ≡ k + open_count (get_many entry (n - i) (drop (ENTRY_SIZE * i) x)))
-
-pub opens-start : (x : List ℕ) (n : ℕ) → Opens x n 0 0
-opens-start x n = (omega arith, rw (sub-zero, zero-add))
 
 module _ (x : List ℕ) (n i k : ℕ) (inv : Opens x n i k) where
   module _ (h : i < n) where

@@ -1,16 +1,17 @@
 -- The text of a list of units, as a text field: the bytes and the zeros written first, then the length before them.
 -- Assumes nothing.
+use Rattle.std.specs.Prelude.{Option, None, Some}
 use mathlib.Core.Path.{◌≡◌, refl, sym, ap, ◌∙◌}
 use mathlib.Core.Bool.{true}
-use mathlib.Core.List.{List, [], ◌∷◌}
-use mathlib.Core.Option.{Option, none, some}
-use Prim.Native.Nat.{ℕ, zero, suc, ◌+◌, ◌-◌, ◌≤◌, ◌<◌}
+use mathlib.Core.List.{List, [], ◌∷◌, ◌++◌}
+use Prim.Native.Nat.{ℕ, zero, suc, ◌+◌, ◌-◌, ◌*◌, ◌≤◌, ◌<◌}
 use native.Mathlib.Nat.{add-zero}
 use native.Mathlib.Omega.{arith}
-use lib.ListN.{length, drop, get_or, replicate}
+use lib.ListN.{length, take, drop, get_or, replicate, length-append, length-drop}
 use lib.Seq.{drop-drop, get_or-drop}
+use Rattle.std.proofs.lemmas.List.{drop-append-le, take-append-le}
 use Rattle.area.specs.Splice.{splice, padded}
-use Rattle.area.proofs.Splice.{chain_down}
+use Rattle.area.proofs.Splice.{chain_down, splice-behind}
 use Rattle.text.specs.Unicode.{text_of}
 use Rattle.text.specs.Placed.{units_at, bytes_in, Put}
 use Rattle.text.proofs.Text.{text_empty}
@@ -19,6 +20,9 @@ use Rattle.session.specs.Limits.{UNITS_MOST, TEXT_MOST}
 use Rattle.session.specs.Codec.{number, via, get_many, list_of}
 use Rattle.session.specs.Area.{bytes_of, text_bytes, opt_text}
 use Rattle.session.specs.Builder.{typed_text}
+use Rattle.session.proofs.Codec.{number-sound, list_sound}
+use Rattle.record.proofs.Records.{units}
+use Rattle.record.proofs.complete.Kept.{still}
 use Rattle.record.proofs.Fields.{count-ok, count_got}
 use Rattle.record.proofs.Written.{text-put}
 
@@ -48,8 +52,8 @@ typed_bytes [] = rw text_empty refl
 typed_bytes (u ∷ us) = go (text_of (u ∷ us))
   where
     go : (o : Option (List ℕ)) → bytes_of o ≡ bytes_in o
-    go none = refl
-    go (some t) = refl
+    go None = refl
+    go (Some t) = refl
 
 pub typed_field :
     (us : List ℕ) → length (bytes_in (text_of us)) < 256 →
@@ -76,3 +80,25 @@ typed_written from to src x {n} {r} {k} {w} {y₁} {y₂} {y₃} e p q o f g =
     ∙ ap (λ (m : ℕ). splice to (m ∷ padded TEXT_MOST t) x) p.count
     ∙ ap (λ (b : List ℕ). splice to b x) (sym (typed_field us l))
     ∙ ap (λ (v : List ℕ). splice to (opt_text.put (typed_text v)) x) us-there
+
+units_width : units.width ≡ 1 + 2 * UNITS_MOST
+unfolding list_of number
+units_width = refl
+
+-- within one list: the units stand in its front p, and the field behind
+pub typed_behind :
+    (from : ℕ) (s p x : List ℕ) → s ≡ p ++ x → ((i : ℕ) → get_or s i 0 < 256) → from + (1 + 2 * UNITS_MOST) ≤ length p →
+    units.ok (drop from s) ≡ true →
+    (units.ok (drop from p) ≡ true)
+    × ((y : List ℕ) → y ≡ splice 0 (opt_text.put (typed_text (units.get (drop from p)))) x → p ++ y ≡ splice (length p) (opt_text.put (typed_text (units.get (drop from s)))) s)
+typed_behind from s p x e b h o =
+    let w = 1 + 2 * UNITS_MOST in
+    let front : take w (drop from p) ≡ take w (drop from s) =
+    rw (e, drop-append-le from p x (omega arith)) (sym (take-append-le w (drop from p) x (omega (arith, length-drop from p)))) in
+    let same = still (list_sound 1 UNITS_MOST (omega arith) (number-sound 2)) w units_width s b from (omega (arith, ap length e, length-append p x)) o (drop from p) front in (
+      same.0,
+      λ y q.
+          ap (λ (t : List ℕ). p ++ t) q
+          ∙ sym (splice-behind 0 (opt_text.put (typed_text (units.get (drop from p)))) p x)
+          ∙ (λ j. splice (add-zero (length p) j) (opt_text.put (typed_text (same.1 j))) (sym e j)),
+    )

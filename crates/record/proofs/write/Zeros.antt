@@ -1,9 +1,9 @@
 -- What zeros stand for: no held press, and the area of a fresh session.
 -- Assumes nothing.
+use Rattle.std.specs.Prelude.{None}
 use mathlib.Core.Path.{◌≡◌, refl, sym, ap, ◌∙◌}
 use mathlib.Core.Bool.{true, false}
 use mathlib.Core.List.{List}
-use mathlib.Core.Option.{none}
 use Prim.Native.Nat.{ℕ}
 use native.Mathlib.Nat.{sub-zero}
 use lib.Dec.{eqb}
@@ -23,7 +23,7 @@ use Rattle.record.proofs.Written.{none_put}
 
 pub none_written :
     (at : ℕ) (x : List ℕ) {k : ℕ} {zs y : List ℕ} → y ≡ splice k zs x → zs ≡ replicate HELD_FIELD_SIZE 0 → k ≡ at →
-    y ≡ splice at (held_field.put none) x
+    y ≡ splice at (held_field.put None) x
 none_written at x p e f = p ∙ rw (e, f) (sym (ap (λ (r : List ℕ). splice at r x) none_put))
 
 -- ---- a fresh session

@@ -6,10 +6,12 @@ use mathlib.Core.List.{List}
 use Prim.Native.Nat.{ℕ, zero, suc, ◌+◌, ◌-◌, ◌*◌, ◌<◌, ◌≤◌}
 use native.Mathlib.Omega.{arith}
 use lib.Dec.{ltb}
-use lib.ListN.{length, get_or}
+use lib.ListN.{length, take, drop, get_or}
+use lib.Seq.{get_or-drop}
 use borrow.Author.Tests.{lt-ltb, le-ltb, eq-eqb, ne_eqb}
 use Rattle.area.specs.Bytes.{num}
 use Rattle.area.specs.Walk.{every}
+use Rattle.area.proofs.Splice.{part_rest, part_length}
 use Rattle.area.proofs.Walk.{SoFar, every_both}
 use Rattle.text.specs.Unicode.{scalar}
 use Rattle.text.proofs.Scalar.{scalar_low, scalar_none, scalar_above}
@@ -23,6 +25,13 @@ scalar_bits v =
     (λ h.
     either v 0xE000 (λ k. rw (scalar_none v h k, le-ltb v 0xD800 h, le-ltb 0xDFFF v (omega arith)))
     (λ k. rw (scalar_above v k, le-ltb v 0xD800 h, lt-ltb 0xDFFF v (omega arith))))
+
+-- the last column, as the code goes through it
+abbrev kinds : List ℕ → ℕ → List ℕ
+kinds x n = take (length x - (HEAD + 8 * n)) (drop (HEAD + 8 * n) x)
+
+pub kinds_count : (x : List ℕ) (n : ℕ) → length x ≡ size_of n → length (kinds x n) ≡ n
+kinds_count x n h = part_length (HEAD + 8 * n) (length x - (HEAD + 8 * n)) x (omega arith) ∙ omega arith
 
 -- ---- the columns, where n is the number of ranges that the code read
 module _ (x : List ℕ) (i n : ℕ) (e : n ≡ count_in x) where
@@ -41,9 +50,12 @@ module _ (x : List ℕ) (i n : ℕ) (e : n ≡ count_in x) where
   unfolding ends_at
   ends_bit first last r f l h = h ∙ rw (f, last_is last l)
 
-  pub known_bit : (r : Bool) → r ≡ kind_ok (get_or x (HEAD + 8 * n + i) 0) → r ≡ known_at x i
+  pub known_bit : (r : Bool) → r ≡ kind_ok (get_or (kinds x n) i 0) → r ≡ known_at x i
   unfolding known_at
-  known_bit r h = h ∙ ap kind_ok kind_is
+  known_bit r h =
+      h
+      ∙ ap (λ (l : List ℕ). kind_ok (get_or l i 0)) (part_rest (HEAD + 8 * n) x)
+      ∙ ap kind_ok (get_or-drop (HEAD + 8 * n) x i 0 ∙ kind_is)
 
 pub after-bit :
     (x : List ℕ) (i n first last : ℕ) → n ≡ count_in x → 0 < i → last ≡ num 4 (HEAD + 4 * n + 4 * i - 4) x → first ≡ first_at x i →

@@ -3,7 +3,7 @@
 use mathlib.Core.Path.{◌≡◌, refl, sym, ap, ◌∙◌}
 use mathlib.Core.Bool.{Bool, true, false}
 use mathlib.Core.List.{List, [], ◌∷◌, ◌++◌, append_assoc}
-use Prim.Native.Nat.{ℕ, zero, suc, ◌+◌, ◌-◌, ◌*◌, ◌/◌, ◌%◌, ◌^◌, ◌<◌, ◌≤◌}
+use Prim.Native.Nat.{ℕ, zero, suc, ◌+◌, ◌*◌, ◌/◌, ◌%◌, ◌^◌, ◌<◌, ◌≤◌}
 use native.Mathlib.Nat.{div-lt_iff_lt-mul, pow-suc, mul-le-mul_left, lt_of_lt_of_le}
 use native.Mathlib.Numerals.{add-one}
 use native.Mathlib.Omega.{arith}
@@ -20,7 +20,7 @@ use Rattle.trace.specs.Lines.{pairs}
 
 pub wrote_none : (at : ℕ) (x : List ℕ) → Wrote at [] x x at
 unfolding splice
-wrote_none at x = record { bytes = refl; place = omega arith }
+wrote_none at x = record { bytes = refl; place = omega arith; size = refl }
 
 -- one text behind another is a text
 pub wrote-append :
@@ -29,11 +29,8 @@ wrote-append at n m a b {x} {y} {z} p q =
     record {
       bytes = q.bytes ∙ rw (p.bytes, p.place) (splice-append at a b x);
       place = let s = p.place in let t = q.place in rw length-append (omega arith);
+      size = q.size ∙ p.size;
     }
-
--- the buffer keeps its length
-pub wrote-length : (at n : ℕ) (a : List ℕ) {x y : List ℕ} → Wrote at a x y n → length y ≡ length x
-wrote-length at n a {x} {y} p = ap length p.bytes ∙ length-splice at a x
 
 -- a number below 10^k has at most k digits in a base from 10 on
 pub numeral-short : (k b v : ℕ) → 10 ≤ b → v < 10 ^ suc k → length (numeral b v) ≤ suc k
@@ -56,10 +53,14 @@ numeral-short (suc k) b v h e = go (ltb v b) refl (λ p. numeral-short k b (v / 
 pub numeral_20 : (b v : ℕ) → 10 ≤ b → v < 18446744073709551616 → length (numeral b v) ≤ 20
 numeral_20 b v h k = numeral-short 19 b v h (omega arith)
 
--- a byte and a text behind it
-pub wrote_cons : (at g : ℕ) (bs x : List ℕ) {y : List ℕ} (n : ℕ) → y ≡ splice (at + 1) bs (set x at g) → n ≡ length bs → Wrote at (g ∷ bs) x y (at + 1 + n)
+-- what is written from its place on
+pub wrote_splice : (at n : ℕ) (bs x : List ℕ) {y : List ℕ} → y ≡ splice at bs x → n ≡ length bs → Wrote at bs x y (at + n)
+wrote_splice at n bs x e k = record { bytes = e; place = ap (λ (m : ℕ). at + m) k; size = ap length e ∙ length-splice at bs x }
+
+-- a byte
+pub wrote_byte : (at g : ℕ) (x : List ℕ) → Wrote at (g ∷ []) x (set x at g) (at + 1)
 unfolding splice
-wrote_cons at g bs x n e k = record { bytes = e ∙ rw (add-one at); place = omega arith }
+wrote_byte at g x = wrote_splice at 1 (g ∷ []) x refl refl
 
 pairs-append : (a b : List ℕ) → pairs (a ++ b) ≡ pairs a ++ pairs b
 unfolding pairs

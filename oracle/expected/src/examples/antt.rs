@@ -26,7 +26,7 @@ fn text(t: &str) -> String {
 }
 
 fn opt_text(t: &Option<std::sync::Arc<str>>) -> String {
-  t.as_ref().map_or("none".into(), |t| format!("some ({})", text(t)))
+  t.as_ref().map_or("None".into(), |t| format!("Some ({})", text(t)))
 }
 
 fn native(n: Native) -> String {
@@ -124,7 +124,7 @@ pub fn step(s: &Step) -> String {
   match s.body {
     Body::Open { kind, wparam, lparam } => format!("bring {b} {t} {}", message(kind, wparam, lparam)),
     Body::Finish { token, peeked } => {
-      let peeked = peeked.map_or("none".into(), |p| format!("(some {})", message(p.kind, p.wparam, p.lparam)));
+      let peeked = peeked.map_or("None".into(), |p| format!("(Some {})", message(p.kind, p.wparam, p.lparam)));
       format!("finish {b} {t} {token} {peeked}")
     }
   }

@@ -1,7 +1,7 @@
 -- `queue::event_queue::complete_pending` meets its contract.
 -- Assumes nothing.
+use Rattle.std.specs.Prelude.{Some}
 use mathlib.Core.Path.{◌≡◌, refl, ◌∙◌}
-use mathlib.Core.Option.{some}
 use Prim.Native.Nat.{ℕ, ◌<◌}
 use native.Mathlib.Nat.{add-zero}
 use native.Mathlib.Omega.{arith}
@@ -54,7 +54,7 @@ same-length-4 c = search rules
 returns-2 : tie.Need-returns
 returns-2 c x y e b stands fits size put =
     let later-one : (c.args.place ≡ 0) → ⊥ = λ i. omega (arith, c.if-place-eq0.false) in
-    later x b _ _ stands (some e) later-one c.no_events.ensures (c.complete.ensures x e b stands fits ((put.later later-one).0 ∙ rw add-zero refl))
+    later x b _ _ stands (Some e) later-one c.no_events.ensures (c.complete.ensures x e b stands fits ((put.later later-one).0 ∙ rw add-zero refl))
 
 pub complete_pending_spec : {M : Type 1} → statement M
 complete_pending_spec =

@@ -1,7 +1,7 @@
 -- `queue::event_queue::remove_pending` meets its contract.
 -- Assumes nothing.
+use Rattle.std.specs.Prelude.{None}
 use mathlib.Core.Path.{refl}
-use mathlib.Core.Option.{none}
 use Prim.Native.Nat.{ℕ, ◌<◌}
 use native.Mathlib.Omega.{arith}
 use borrow.Author.Rules.{rules}
@@ -56,7 +56,7 @@ returns-2 c =
     let known = c.before.before.before.before.before.before.before.before.before.before in
     let a = c.args in
     later a.session.now (bytes known) a.token.0 a.place c.requires.0
-    none (λ i. omega (arith, c.if-place-eq0.false)) c.no_events.ensures c.remove.ensures
+    None (λ i. omega (arith, c.if-place-eq0.false)) c.no_events.ensures c.remove.ensures
 
 pub remove_pending_spec : {M : Type 1} → statement M
 remove_pending_spec =

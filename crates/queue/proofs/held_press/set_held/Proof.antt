@@ -1,7 +1,7 @@
 -- `queue::held_press::set_held` meets its contract.
 -- Assumes nothing.
+use Rattle.std.specs.Prelude.{Some}
 use mathlib.Core.Path.{refl}
-use mathlib.Core.Option.{some}
 use native.Mathlib.Omega.{arith}
 use borrow.Author.Rules.{rules}
 use Rattle.queue.proofs.HeldPress.{set_fits, held-set}
@@ -16,7 +16,7 @@ same_length c = search rules
 
 returns : tie.Need-returns
 returns c =
-    held-set c.args.session.now (λ i. omega (arith, c.slice_known-1.given i)) c.requires.0 (some _) (set_fits _ refl c.requires.2) c.put_held.ensures refl
+    held-set c.args.session.now (λ i. omega (arith, c.slice_known-1.given i)) c.requires.0 (Some _) (set_fits _ refl c.requires.2) c.put_held.ensures refl
 
 pub set_held_spec : {M : Type 1} → statement M
 set_held_spec = tie.close (tie.spec

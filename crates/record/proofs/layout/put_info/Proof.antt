@@ -18,7 +18,7 @@ put-flag-requires c κs = search rules
 add-put-u8 : tie.Need-overflow_add-at-2
 add-put-u8 c = search rules
 
-location-number-requires : tie.Need-location_number-requires
+location-number-requires : tie.Need-from-requires
 location-number-requires c κs = search rules
 
 put-u8-requires : tie.Need-put_u8-requires
@@ -43,7 +43,7 @@ returns : tie.Need-returns
 returns c =
     let a = c.args in
     info-written a.block.now a.n a.at a.s.now c.requires.1 c.put_u16.ensures c.put_flag.ensures
-    c.location_number.ensures c.put_u8.ensures c.put_key.ensures c.put_undead_key.ensures
+    c.from.ensures c.put_u8.ensures c.put_key.ensures c.put_undead_key.ensures
     refl refl refl refl refl
 
 pub put_info_spec : {M : Type 1} → statement M

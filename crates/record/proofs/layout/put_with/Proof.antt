@@ -6,7 +6,7 @@ use Rattle.record.proofs.layout.Keys.{key-put}
 use Rattle.record.proofs.layout.put_with.Statement.{statement}
 use Rattle.record.proofs.layout.put_with.Tie as tie
 
-key-fields-requires : tie.Need-key_fields-f-requires
+key-fields-requires : tie.Need-from-f-requires
 key-fields-requires c κs = search rules
 
 put-u16-requires : tie.Need-put_u16-requires
@@ -36,7 +36,7 @@ same_length c = search rules
 returns : tie.Need-returns
 returns c =
     let a = c.args in
-    let f = c.key_fields-f.ensures in
+    let f = c.from-f.ensures in
     key-put a.most a.key a.t.now a.at a.s.now c.requires.3 f.0 f.1 f.2
     c.put_u16.ensures c.put_u8.ensures c.put_u32.ensures c.put_part.ensures refl refl refl
 
