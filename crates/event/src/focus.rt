@@ -2,13 +2,14 @@
 ghost use Rattle.std.specs.Prelude.{true, List, [], ◌∷◌, ◌++◌, ◌≡◌, ℕ, ◌+◌, ◌≤◌, ◌<◌, length};
 ghost use Rattle.arrayvec.specs.ArrayVec.{array_vec_len};
 ghost use Rattle.keys.specs.Text.{full, text_from};
-ghost use Rattle.lookup.specs.Block.{block_ok, maps_of};
+ghost use Rattle.lookup.specs.Block.{maps_of};
 ghost use Rattle.lookup.specs.Layout.{scan_code_for};
 ghost use Rattle.session.specs.Focus.{modifier_keys, is_other, others_from, focus_keys, written, focus_events, focus_text, synthetic_event};
 ghost use Rattle.session.specs.InBlock.{event_in, EventIn};
 ghost use Rattle.session.specs.Limits.{KEYS};
 ghost use Rattle.event.specs.Written.{keyboard_at, written_of};
 
+use crate::keyboard::Keyboard;
 use arrayvec::ArrayVec;
 use keys::{Key, KeyText};
 use lookup::keyboard_layout::WindowsModifiers;
@@ -34,74 +35,71 @@ fn is_other(vk: u8) -> bool
 
 // Whether a key is down and has a scan code.
 #[tactic(auto, unfolding(session::specs::Focus::written))]
-fn is_written(state: &[u8], block: &[u8], vk: u8) -> bool
-    requires { block_ok block.now ≡ true }
-    ensures { result ≡ written (keyboard_at state.now block.now) vk }
+fn is_written(keyboard: Keyboard<'_>, vk: u8) -> bool
+    ensures { result ≡ written (keyboard_at keyboard.entry.state.now keyboard.entry.layout.bytes.now) vk }
 {
-    lookup::keyboard_layout::is_down(state, vk as usize)
-        && lookup::keyboard_layout::scancode_for(block, vk as u16) != 0
+    lookup::keyboard_layout::is_down(keyboard.state, vk as usize)
+        && keyboard.layout.scancode_for(vk as u16) != 0
 }
 
 // Notes a key where it is written.
 #[tactic(auto, unfolding(crate::specs::Written::written_of))]
-fn note(keys: &mut FocusKeys, state: &[u8], block: &[u8], vk: u8)
-    requires { (array_vec_len keys.old < KEYS) × (block_ok block.now ≡ true) }
-    ensures { (keys.new.items ≡ keys.old.items ++ written_of (keyboard_at state.now block.now) (vk ∷ [])) × (array_vec_len keys.new ≤ array_vec_len keys.old + 1) }
+fn note(keys: &mut FocusKeys, keyboard: Keyboard<'_>, vk: u8)
+    requires { array_vec_len keys.old < KEYS }
+    ensures { (keys.new.items ≡ keys.old.items ++ written_of (keyboard_at keyboard.entry.state.now keyboard.entry.layout.bytes.now) (vk ∷ [])) × (array_vec_len keys.new ≤ array_vec_len keys.old + 1) }
 {
-    if is_written(state, block, vk) {
+    if is_written(keyboard, vk) {
         keys.push(vk);
     }
 }
 
 // Notes the six modifier keys that are written, in the table's order.
-fn note_modifiers(keys: &mut FocusKeys, state: &[u8], block: &[u8])
-    requires { (array_vec_len keys.old + 6 ≤ KEYS) × (block_ok block.now ≡ true) }
-    ensures { (keys.new.items ≡ keys.old.items ++ written_of (keyboard_at state.now block.now) modifier_keys) × (array_vec_len keys.new ≤ array_vec_len keys.old + 6) }
+fn note_modifiers(keys: &mut FocusKeys, keyboard: Keyboard<'_>)
+    requires { array_vec_len keys.old + 6 ≤ KEYS }
+    ensures { (keys.new.items ≡ keys.old.items ++ written_of (keyboard_at keyboard.entry.state.now keyboard.entry.layout.bytes.now) modifier_keys) × (array_vec_len keys.new ≤ array_vec_len keys.old + 6) }
 {
     for vk in MODIFIER_KEYS {
-        note(keys, state, block, vk);
+        note(keys, keyboard, vk);
     }
 }
 
 // Notes the other keys that are written, ascending.
-fn note_others(keys: &mut FocusKeys, state: &[u8], block: &[u8])
-    requires { (array_vec_len keys.old ≤ 7) × (block_ok block.now ≡ true) }
-    ensures { (keys.new.items ≡ keys.old.items ++ written_of (keyboard_at state.now block.now) (others_from KEYS 0)) × (array_vec_len keys.new ≤ array_vec_len keys.old + 246) }
+fn note_others(keys: &mut FocusKeys, keyboard: Keyboard<'_>)
+    requires { array_vec_len keys.old ≤ 7 }
+    ensures { (keys.new.items ≡ keys.old.items ++ written_of (keyboard_at keyboard.entry.state.now keyboard.entry.layout.bytes.now) (others_from KEYS 0)) × (array_vec_len keys.new ≤ array_vec_len keys.old + 246) }
 {
     for vk in 0..KEY_STATE_SIZE {
         if is_other(vk as u8) {
-            note(keys, state, block, vk as u8);
+            note(keys, keyboard, vk as u8);
         }
     }
 }
 
 // SCOPE 3.14, the keys that a focus change writes: at gain Caps Lock, the others, the six; at loss Caps Lock, the six, the others.
 #[tactic(auto, using(crate::proofs::focus::Keys::gain_keys, crate::proofs::focus::Keys::loss_keys))]
-pub fn focus_keys(state: &[u8], block: &[u8], st: ElementState) -> FocusKeys
-    requires { block_ok block.now ≡ true }
-    ensures { (result.items ≡ written_of (keyboard_at state.now block.now) (focus_keys st)) × (array_vec_len result ≤ 253) }
+pub fn focus_keys(keyboard: Keyboard<'_>, st: ElementState) -> FocusKeys
+    ensures { (result.items ≡ written_of (keyboard_at keyboard.entry.state.now keyboard.entry.layout.bytes.now) (focus_keys st)) × (array_vec_len result ≤ 253) }
 {
     let mut keys = FocusKeys::new();
-    note(&mut keys, state, block, VK_CAPITAL);
+    note(&mut keys, keyboard, VK_CAPITAL);
     match st {
         ElementState::Pressed => {
-            note_others(&mut keys, state, block);
-            note_modifiers(&mut keys, state, block);
+            note_others(&mut keys, keyboard);
+            note_modifiers(&mut keys, keyboard);
         }
         ElementState::Released => {
-            note_modifiers(&mut keys, state, block);
-            note_others(&mut keys, state, block);
+            note_modifiers(&mut keys, keyboard);
+            note_others(&mut keys, keyboard);
         }
     }
     keys
 }
 
 // How many events a focus change has.
-pub fn focus_count(state: &[u8], block: &[u8], st: ElementState) -> usize
-    requires { block_ok block.now ≡ true }
-    ensures { result ≡ length (focus_events (keyboard_at state.now block.now) st) }
+pub fn focus_count(keyboard: Keyboard<'_>, st: ElementState) -> usize
+    ensures { result ≡ length (focus_events (keyboard_at keyboard.entry.state.now keyboard.entry.layout.bytes.now) st) }
 {
-    focus_keys(state, block, st).len()
+    focus_keys(keyboard, st).len()
 }
 
 // ---- the event of one key
@@ -118,12 +116,12 @@ fn focus_text(st: ElementState, k: Key) -> KeyText
 }
 
 // The event of a key that a focus change writes, in which a dead key stays one. Of the modifiers it knows the Caps Lock and Num Lock toggles alone.
-pub fn synthetic_event(state: &[u8], block: &[u8], st: ElementState, vk: u8) -> KeyEvent
-    requires { block_ok block.now ≡ true }
-    ensures { (event_in block.now result ≡ synthetic_event (keyboard_at state.now block.now) st vk (scan_code_for (maps_of block.now) vk)) × EventIn block.now result }
+pub fn synthetic_event(keyboard: Keyboard<'_>, st: ElementState, vk: u8) -> KeyEvent
+    ensures { (event_in keyboard.entry.layout.bytes.now result ≡ synthetic_event (keyboard_at keyboard.entry.state.now keyboard.entry.layout.bytes.now) st vk (scan_code_for (maps_of keyboard.entry.layout.bytes.now) vk)) × EventIn keyboard.entry.layout.bytes.now result }
 {
+    let Keyboard { state, layout } = keyboard;
     let vkey = vk as u16;
-    let scancode = lookup::keyboard_layout::scancode_for(block, vkey);
+    let scancode = layout.scancode_for(vkey);
     let toggles = WindowsModifiers {
         shift: false,
         control: false,
@@ -131,12 +129,12 @@ pub fn synthetic_event(state: &[u8], block: &[u8], st: ElementState, vk: u8) -> 
         caps_lock: lookup::keyboard_layout::caps_lock_on(state),
     };
     let num_lock = lookup::keyboard_layout::num_lock_on(state);
-    let logical_key = crate::partial::layout_key(block, toggles, num_lock, vkey, scancode);
-    let key_without_modifiers = crate::partial::plain_key(block, vkey, scancode);
+    let logical_key = crate::partial::layout_key(layout, toggles, num_lock, vkey, scancode);
+    let key_without_modifiers = crate::partial::plain_key(layout, vkey, scancode);
     let key = logical_key.key;
     let text = focus_text(st, key);
     let physical_key = lookup::keycode::keycode_from_scancode(scancode);
-    let location = lookup::keyboard::get_location(block, scancode);
+    let location = lookup::keyboard::get_location(layout, scancode);
     KeyEvent {
         physical_key,
         logical_key,

@@ -7,5 +7,6 @@ pub mod character;
 mod fake;
 pub mod focus;
 pub mod key_event;
+pub mod keyboard;
 pub mod partial;
 pub mod peeked;

@@ -1,7 +1,7 @@
 // tao's PartialKeyEventInfo::from_message: what a press or a release is, read from layout and key state. The texts of its keys stand in the block.
 ghost use Rattle.std.specs.Prelude.{true, not, ◌&&◌, List, [], ◌≡◌, ℕ, option_map};
 ghost use Rattle.keys.specs.Text.{full, bare_of};
-ghost use Rattle.lookup.specs.Block.{block_ok, maps_of};
+ghost use Rattle.lookup.specs.Block.{maps_of};
 ghost use Rattle.lookup.specs.Codes.{key_code_of};
 ghost use Rattle.lookup.specs.Layout.{get_key, key_in};
 ghost use Rattle.lookup.specs.Modifiers.{bits_of};
@@ -10,8 +10,10 @@ ghost use Rattle.session.specs.Event.{Info};
 ghost use Rattle.session.specs.InBlock.{FitsIn, info_in, InfoIn};
 ghost use Rattle.event.specs.Written.{keyboard_at};
 
+use crate::keyboard::Keyboard;
 use keys::Key;
 use keys::key_code::KeyCode;
+use lookup::block::Layout;
 use lookup::keyboard::KeyLParam;
 use lookup::keyboard_layout::{LayoutKey, WindowsModifiers};
 use session::PartialKeyEventInfo;
@@ -20,24 +22,22 @@ use session::PartialKeyEventInfo;
 
 // The layout's key under some modifiers.
 pub(crate) fn layout_key(
-    block: &[u8],
+    layout: Layout<'_>,
     mods: WindowsModifiers,
     num_lock_on: bool,
     vkey: u16,
     scancode: u16,
 ) -> LayoutKey
-    requires { block_ok block.now ≡ true }
-    ensures { (key_in block.now result ≡ get_key (maps_of block.now) (bits_of mods) num_lock_on vkey scancode (key_code_of scancode)) × FitsIn block.now result }
+    ensures { (key_in layout.entry.bytes.now result ≡ get_key (maps_of layout.entry.bytes.now) (bits_of mods) num_lock_on vkey scancode (key_code_of scancode)) × FitsIn layout.entry.bytes.now result }
 {
     let code = lookup::keycode::keycode_from_scancode(scancode);
-    lookup::keyboard_layout::get_key(block, mods, num_lock_on, vkey, scancode, code)
+    layout.get_key(mods, num_lock_on, vkey, scancode, code)
 }
 
 // The layout's key without modifiers.
 #[tactic(auto, using(lookup::proofs::keyboard_layout::Sets::caps_bits), unfolding(session::specs::Builder::plain_key))]
-pub(crate) fn plain_key(block: &[u8], vkey: u16, scancode: u16) -> LayoutKey
-    requires { block_ok block.now ≡ true }
-    ensures { ((state : List ℕ) → key_in block.now result ≡ plain_key (keyboard_at state block.now) vkey scancode) × FitsIn block.now result }
+pub(crate) fn plain_key(layout: Layout<'_>, vkey: u16, scancode: u16) -> LayoutKey
+    ensures { ((state : List ℕ) → key_in layout.entry.bytes.now result ≡ plain_key (keyboard_at state layout.entry.bytes.now) vkey scancode) × FitsIn layout.entry.bytes.now result }
 {
     let none = WindowsModifiers {
         shift: false,
@@ -45,7 +45,7 @@ pub(crate) fn plain_key(block: &[u8], vkey: u16, scancode: u16) -> LayoutKey
         alt: false,
         caps_lock: false,
     };
-    layout_key(block, none, false, vkey, scancode)
+    layout_key(layout, none, false, vkey, scancode)
 }
 
 // ---- presses and releases
@@ -66,13 +66,13 @@ fn forced_key(control: bool, code: KeyCode) -> Option<Key>
 }
 
 // What is kept of a press or a release. With Control on, NumLock and Pause are themselves, whatever the layout says.
-pub fn from_message(state: &[u8], block: &[u8], vkey: u16, l: KeyLParam) -> PartialKeyEventInfo
-    requires { block_ok block.now ≡ true }
-    ensures { (info_in block.now result ≡ from_message (keyboard_at state.now block.now) vkey l) × InfoIn block.now result }
+pub fn from_message(keyboard: Keyboard<'_>, vkey: u16, l: KeyLParam) -> PartialKeyEventInfo
+    ensures { (info_in keyboard.entry.layout.bytes.now result ≡ from_message (keyboard_at keyboard.entry.state.now keyboard.entry.layout.bytes.now) vkey l) × InfoIn keyboard.entry.layout.bytes.now result }
 {
-    let scancode = lookup::keyboard::message_scancode(block, vkey, l);
+    let Keyboard { state, layout } = keyboard;
+    let scancode = lookup::keyboard::message_scancode(layout, vkey, l);
     let mods = WindowsModifiers::active_modifiers(state);
-    let location = lookup::keyboard::get_location(block, scancode);
+    let location = lookup::keyboard::get_location(layout, scancode);
     let is_repeat = l.is_repeat;
     let code = lookup::keycode::keycode_from_scancode(scancode);
     if let Some(key) = forced_key(mods.control, code) {
@@ -91,8 +91,8 @@ pub fn from_message(state: &[u8], block: &[u8], vkey: u16, l: KeyLParam) -> Part
     }
     let num_lock = lookup::keyboard_layout::num_lock_on(state);
     let shown = mods.remove_only_ctrl();
-    let logical_key = layout_key(block, shown, num_lock, vkey, scancode);
-    let key_without_modifiers = plain_key(block, vkey, scancode);
+    let logical_key = layout_key(layout, shown, num_lock, vkey, scancode);
+    let key_without_modifiers = plain_key(layout, vkey, scancode);
     PartialKeyEventInfo {
         scancode,
         is_repeat,

@@ -1,13 +1,13 @@
 // What was peeked behind a message, what of it counts, and what it tells: whether a press is held, whether more characters are coming, whether a key is fake.
 ghost use Rattle.std.specs.Prelude.{true, not, ◌&&◌, List, ◌≡◌, ℕ};
 ghost use Rattle.keys.specs.Text.{bare_of};
-ghost use Rattle.lookup.specs.Block.{block_ok};
 ghost use Rattle.session.specs.Builder.{fake};
 ghost use Rattle.session.specs.Calls.{seen, holds, more_coming};
 ghost use Rattle.session.specs.Event.{Info};
 ghost use Rattle.event.specs.Written.{keyboard_at};
 
 use keys::Key;
+use lookup::block::Layout;
 use session::{
     Message, WM_CHAR, WM_KEYDOWN, WM_KEYUP, WM_QUIT, WM_SYSCHAR, WM_SYSKEYDOWN, WM_SYSKEYUP,
 };
@@ -49,9 +49,12 @@ pub fn completes(held: bool, peeked: Option<Message>) -> bool
 }
 
 // SCOPE 3.8: whether the key is fake, by what was peeked. With nothing peeked no right Alt key is behind it.
-pub fn is_fake(block: &[u8], key: Key, peeked: Option<Message>) -> bool
-    requires { block_ok block.now ≡ true }
-    ensures { (state : List ℕ) (n : Info) → bare_of n.logical_key ≡ key → result ≡ fake (keyboard_at state block.now) n peeked }
+pub fn is_fake(layout: Layout<'_>, key: Key, peeked: Option<Message>) -> bool
+    ensures { (state : List ℕ) (n : Info) → bare_of n.logical_key ≡ key → result ≡ fake (keyboard_at state layout.entry.bytes.now) n peeked }
 {
-    peeked.is_some_and(|message| crate::fake::is_current_fake(block, key, message))
+    // Not `is_some_and`: nothing is known of a closure that captures a Layout, so its proof doesn't close.
+    match peeked {
+        Some(message) => crate::fake::is_current_fake(layout, key, message),
+        None => false,
+    }
 }

@@ -3,11 +3,8 @@
 // line is no part of that file: how many texts there are, and whether several_pieces says of each what its marks say.
 #![tactic(auto)]
 
-ghost use Rattle.std.specs.Prelude.{◌≡◌, true};
-ghost use Rattle.segmentation.specs.Layout.{table_ok};
-
 use lines::Numbers;
-use segmentation::break_table::{props_at, table_ok};
+use segmentation::break_table::BreakTable;
 use segmentation::grapheme;
 use std::io::Read;
 use std::{fs, io};
@@ -61,17 +58,15 @@ fn read<'a>(before: &'a [u8], now: &[u8]) -> &'a [u8] {
 }
 
 // Prints the text of a line with its marks, and answers whether it has several pieces by them.
-fn show_pieces(rt: &impl Print, table: &[u8], line: &[u8]) -> io::Result<bool>
-    requires { table_ok table.now ≡ true }
-{
+fn show_pieces(rt: &impl Print, table: BreakTable<'_>, line: &[u8]) -> io::Result<bool> {
     let mut numbers = Numbers::new(line, 0);
-    let first = props_at(table, scalar_of(numbers.next().unwrap_or(0)));
+    let first = table.props_at(scalar_of(numbers.next().unwrap_or(0)));
     show_scalar(rt, true, read(line, numbers.rest))?;
     let mut behind = grapheme::first(first);
     let mut several = false;
     let mut rest = numbers.rest;
     while let Some(number) = numbers.next() {
-        let props = props_at(table, scalar_of(number));
+        let props = table.props_at(scalar_of(number));
         let breaks = grapheme::breaks(behind, props);
         let digits = read(rest, numbers.rest);
         show_scalar(rt, breaks, digits.strip_prefix(b" ").unwrap_or(digits))?;
@@ -85,9 +80,7 @@ fn show_pieces(rt: &impl Print, table: &[u8], line: &[u8]) -> io::Result<bool>
 }
 
 // Prints the text of a line, and answers whether several_pieces says what its marks say.
-fn show_text(rt: &impl Print, table: &[u8], line: &[u8]) -> io::Result<bool>
-    requires { table_ok table.now ≡ true }
-{
+fn show_text(rt: &impl Print, table: BreakTable<'_>, line: &[u8]) -> io::Result<bool> {
     let several = show_pieces(rt, table, line)?;
     let mut space = [0u8; 256];
     let len = put_text(line, &mut space);
@@ -97,9 +90,7 @@ fn show_text(rt: &impl Print, table: &[u8], line: &[u8]) -> io::Result<bool>
 
 // ---- all texts
 
-fn show_all(rt: &impl Print, table: &[u8], input: &[u8]) -> io::Result<()>
-    requires { table_ok table.now ≡ true }
-{
+fn show_all(rt: &impl Print, table: BreakTable<'_>, input: &[u8]) -> io::Result<()> {
     let mut texts = 0u64;
     let mut agree = true;
     for line in input.split(|b| *b == b'\n') {
@@ -119,10 +110,10 @@ fn main(rt: HostRuntime) -> io::Result<()> {
     };
     let mut table = Vec::new(rt.alloc());
     file.take(MOST).read_to_end(&mut table)?;
-    if !table_ok(&table) {
+    let Some(table) = BreakTable::new(&table) else {
         return println!(rt; "unicode.breaks: no break table");
-    }
+    };
     let mut input = Vec::new(rt.alloc());
     rt.reader().take(MOST).read_to_end(&mut input)?;
-    show_all(&rt, &table, &input)
+    show_all(&rt, table, &input)
 }

@@ -1,13 +1,10 @@
 // Looks keys up in the US layout block, and prints what it finds: set of modifiers, Num Lock, virtual key, scan code, key.
 #![tactic(auto)]
 
-ghost use Rattle.std.specs.Prelude.{true, ◌≡◌};
-ghost use Rattle.lookup.specs.Block.{block_ok};
-
 use keys::Key;
 use keys::native_code::NativeFields;
-use lookup::block::block_ok;
-use lookup::keyboard_layout::{LayoutKey, WindowsModifiers, get_key, key_text, scancode_for};
+use lookup::block::Layout;
+use lookup::keyboard_layout::{LayoutKey, WindowsModifiers, key_text};
 use lookup::keycode::keycode_from_scancode;
 use std::fs::File;
 use std::io;
@@ -48,37 +45,33 @@ fn show_key(rt: &impl Print, block: &[u8], found: LayoutKey) -> io::Result<()> {
 }
 
 // One virtual key, by the scan code that the block has for it; nothing where it has none.
-fn show(rt: &impl Print, block: &[u8], set: u8, num_lock: bool, vkey: u16) -> io::Result<()>
-    requires { block_ok block.now ≡ true }
-{
-    let scancode = scancode_for(block, vkey);
+fn show(rt: &impl Print, layout: Layout<'_>, set: u8, num_lock: bool, vkey: u16) -> io::Result<()> {
+    let scancode = layout.scancode_for(vkey);
     if scancode == 0 {
         return Ok(());
     }
     let code = keycode_from_scancode(scancode);
-    let found = get_key(block, modifiers(set), num_lock, vkey, scancode, code);
+    let found = layout.get_key(modifiers(set), num_lock, vkey, scancode, code);
     let on = u8::from(num_lock);
     print!(rt; "{set} {on} {vkey:02x} {scancode:04x} ")?;
-    show_key(rt, block, found)?;
+    show_key(rt, layout.bytes, found)?;
     println!(rt)
 }
 
-fn show_lock(rt: &impl Print, block: &[u8], set: u8, num_lock: bool) -> io::Result<()>
-    requires { block_ok block.now ≡ true }
-{
+fn show_lock(rt: &impl Print, layout: Layout<'_>, set: u8, num_lock: bool) -> io::Result<()> {
     for vkey in 0..256 {
-        show(rt, block, set, num_lock, vkey)?;
+        show(rt, layout, set, num_lock, vkey)?;
     }
     Ok(())
 }
 
 fn show_all(rt: &impl Print, block: &[u8]) -> io::Result<()> {
-    if !block_ok(block) {
+    let Some(layout) = Layout::new(block) else {
         return println!(rt; "not a layout block");
-    }
+    };
     for set in [0, 1, 2, 4, 6, 8, 9] {
-        show_lock(rt, block, set, false)?;
-        show_lock(rt, block, set, true)?;
+        show_lock(rt, layout, set, false)?;
+        show_lock(rt, layout, set, true)?;
     }
     Ok(())
 }

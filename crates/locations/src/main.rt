@@ -1,10 +1,7 @@
 // The location of every scan code of some pages, over a block in which a code has the virtual key of its low byte.
 #![tactic(auto)]
 
-ghost use Rattle.std.specs.Prelude.{true, ◌≡◌};
-ghost use Rattle.lookup.specs.Block.{block_ok};
-
-use lookup::block::block_ok;
+use lookup::block::Layout;
 use lookup::keyboard::get_location;
 use std::fs::File;
 use std::io;
@@ -14,12 +11,10 @@ use std::io::Read;
 const MOST: u64 = 65536;
 
 // Sixteen codes to a line.
-fn show_page(rt: &impl Print, block: &[u8], page: u8) -> io::Result<()>
-    requires { block_ok block.now ≡ true }
-{
+fn show_page(rt: &impl Print, layout: Layout<'_>, page: u8) -> io::Result<()> {
     println!(rt; "page {page:02x}")?;
     for low in 0..=u8::MAX {
-        let location = get_location(block, u16::from_be_bytes([page, low]));
+        let location = get_location(layout, u16::from_be_bytes([page, low]));
         print!(rt; "{}", u8::from(location))?;
         if low % 16 == 15 {
             println!(rt)?;
@@ -29,11 +24,11 @@ fn show_page(rt: &impl Print, block: &[u8], page: u8) -> io::Result<()>
 }
 
 fn show_all(rt: &impl Print, block: &[u8]) -> io::Result<()> {
-    if !block_ok(block) {
+    let Some(layout) = Layout::new(block) else {
         return println!(rt; "not a layout block");
-    }
+    };
     for page in [0x00, 0xE0, 0xE1, 0x01, 0xFF] {
-        show_page(rt, block, page)?;
+        show_page(rt, layout, page)?;
     }
     Ok(())
 }

@@ -1,5 +1,5 @@
 // The layout block: its sizes, and question 3, whether bytes are one.
-ghost use Rattle.std.specs.Prelude.{◌≡◌, ◌+◌, ◌≤◌, ◌<◌, length, drop};
+ghost use Rattle.std.specs.Prelude.{true, false, ◌≡◌, ◌+◌, ◌≤◌, ◌<◌, length, drop, get_or, ℕ, MatchOption};
 ghost use Rattle.area.specs.Pick.{pick};
 ghost use Rattle.lookup.specs.Sizes.{BLOCK_MOST as block_most, HEAD as head_size, ENTRY_HEAD as entry_head};
 ghost use Rattle.lookup.specs.Block.{len_of, list_key_ok, entry_ok, list_ok, used_of, table_ok, lists_ok, block_ok};
@@ -152,4 +152,24 @@ pub fn block_ok(block: &[u8]) -> bool
         && block[1] == 0
         && table_ok(block)
         && lists_ok(block)
+}
+
+// A layout block, which passed question 3. Its bytes are below 256, which a proof reads from no slice inside a struct: the last ghost field says so.
+#[derive(Clone, Copy)]
+pub struct Layout<'a> {
+    pub bytes: &'a [u8],
+    ghost whole: { block_ok bytes.now ≡ true },
+    ghost bytewise: { (i : ℕ) → get_or bytes.now i 0 < 256 },
+}
+
+impl<'a> Layout<'a> {
+    // The layout block that the bytes are, if they are one.
+    pub fn new(bytes: &'a [u8]) -> Option<Self>
+        ensures { MatchOption result (block_ok bytes.now ≡ false) (λ layout. layout.bytes.now ≡ bytes.now) }
+    {
+        if !block_ok(bytes) {
+            return None;
+        }
+        Some(Self { bytes })
+    }
 }

@@ -1,10 +1,11 @@
 // The leaves of tao's keyboard.rs that need no event: the parts of lParam and wParam, a message's scan code, the location of a key.
-ghost use Rattle.std.specs.Prelude.{true, ◌≡◌};
-ghost use Rattle.lookup.specs.Block.{block_ok, maps_of};
+ghost use Rattle.std.specs.Prelude.{◌≡◌};
+ghost use Rattle.lookup.specs.Block.{maps_of};
 ghost use Rattle.lookup.specs.LParam.{key_lparam, ex_scancode, ex_scancode_of, virtual_key};
 ghost use Rattle.lookup.specs.Layout.{message_scancode};
 ghost use Rattle.lookup.specs.Location.{vkey_place, location_in, location_of};
 
+use crate::block::Layout;
 use keys::KeyLocation;
 
 // ---- lParam and wParam
@@ -55,12 +56,11 @@ pub fn virtual_key(wparam: u64) -> u16
 
 // SCOPE 3.1: the scan code of a press or a release, the block's where the message carries none.
 #[tactic(auto, unfolding(crate::specs::Layout::message_scancode))]
-pub fn message_scancode(block: &[u8], vkey: u16, l: KeyLParam) -> u16
-    requires { block_ok block.now ≡ true }
-    ensures { result ≡ message_scancode (maps_of block.now) vkey l }
+pub fn message_scancode(layout: Layout<'_>, vkey: u16, l: KeyLParam) -> u16
+    ensures { result ≡ message_scancode (maps_of layout.entry.bytes.now) vkey l }
 {
     if l.scancode == 0 {
-        return crate::keyboard_layout::scancode_for(block, vkey);
+        return layout.scancode_for(vkey);
     }
     new_ex_scancode(l.scancode, l.extended)
 }
@@ -105,13 +105,9 @@ fn location_in(place: VkeyPlace, extended: bool) -> KeyLocation
 }
 
 #[tactic(auto, unfolding(crate::specs::Location::location_of, crate::specs::Location::extended_code))]
-pub fn get_location(block: &[u8], scancode: u16) -> KeyLocation
-    requires { block_ok block.now ≡ true }
-    ensures { result ≡ location_of (maps_of block.now) scancode }
+pub fn get_location(layout: Layout<'_>, scancode: u16) -> KeyLocation
+    ensures { result ≡ location_of (maps_of layout.entry.bytes.now) scancode }
 {
     let extended = 0xE000 <= scancode;
-    location_in(
-        vkey_place(crate::keyboard_layout::vkey_for(block, scancode)),
-        extended,
-    )
+    location_in(vkey_place(layout.vkey_for(scancode)), extended)
 }

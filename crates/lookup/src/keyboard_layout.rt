@@ -2,12 +2,13 @@
 ghost use Rattle.std.specs.Prelude.{true, ◌≡◌, ◌≤◌, ◌<◌, ◌+◌, length, drop};
 ghost use Rattle.area.specs.Pick.{pick};
 ghost use Rattle.lookup.specs.Sizes.{BLOCK_MOST, MODIFIER_SETS, LISTS, CELLS, HEAD as head_size, ENTRY_HEAD as entry_head};
-ghost use Rattle.lookup.specs.Block.{cell_at, block_ok, maps_of, list_key_ok, list_ok, start_of, nonzero, place_of, place_in_list, place_for};
+ghost use Rattle.lookup.specs.Block.{cell_at, maps_of, list_key_ok, list_ok, start_of, nonzero, place_of, place_in_list, place_for};
 ghost use Rattle.lookup.specs.Layout.{non_char_key, scan_code_for, vkey_for, get_key, part_of, key_in, bare, found_at};
 ghost use Rattle.lookup.specs.Modifiers.{down, toggled, any_down, active_modifiers, num_lock_on, caps_lock_on, remove_only_ctrl, bits_of};
 
 use crate::block::{
-    CELLS_AT, COUNTS_AT, ENTRY_HEAD, HEAD, LOCK_LISTS, PAGES_FROM, SCANS_FROM, SIZES_AT, VKEYS,
+    CELLS_AT, COUNTS_AT, ENTRY_HEAD, HEAD, LOCK_LISTS, Layout, PAGES_FROM, SCANS_FROM, SIZES_AT,
+    VKEYS,
 };
 use keys::key_code::KeyCode;
 use keys::{Key, NativeKeyCode};
@@ -131,62 +132,60 @@ fn cell(block: &[u8], i: usize) -> u16
     area::get_u16(block, CELLS_AT + 2 * i)
 }
 
-#[tactic(auto, using(crate::proofs::block::Passed::headed), unfolding(crate::specs::Block::maps_of))]
-pub fn has_alt_graph(block: &[u8]) -> bool
-    requires { block_ok block.now ≡ true }
-    ensures { result ≡ (maps_of block.now).has_alt_graph }
-{
-    block[0] == 1
-}
+impl Layout<'_> {
+    #[tactic(auto, using(crate::proofs::block::Passed::headed), unfolding(crate::specs::Block::maps_of))]
+    pub fn has_alt_graph(self) -> bool
+        ensures { result ≡ (maps_of self.entry.bytes.now).has_alt_graph }
+    {
+        self.bytes[0] == 1
+    }
 
-// MapVirtualKeyExW with MAPVK_VK_TO_VSC_EX.
-#[tactic(auto, using(crate::proofs::block::Passed::headed, crate::proofs::block::Read::scan_at, crate::proofs::block::Read::scan_past), unfolding(crate::specs::Layout::scan_code_for))]
-pub fn scancode_for(block: &[u8], vkey: u16) -> u16
-    requires { block_ok block.now ≡ true }
-    ensures { result ≡ scan_code_for (maps_of block.now) vkey }
-{
-    let i = usize::from(vkey);
-    if VKEYS <= i {
-        return 0;
+    // MapVirtualKeyExW with MAPVK_VK_TO_VSC_EX.
+    #[tactic(auto, using(crate::proofs::block::Passed::headed, crate::proofs::block::Read::scan_at, crate::proofs::block::Read::scan_past), unfolding(crate::specs::Layout::scan_code_for))]
+    pub fn scancode_for(self, vkey: u16) -> u16
+        ensures { result ≡ scan_code_for (maps_of self.entry.bytes.now) vkey }
+    {
+        let i = usize::from(vkey);
+        if VKEYS <= i {
+            return 0;
+        }
+        cell(self.bytes, SCANS_FROM + i)
     }
-    cell(block, SCANS_FROM + i)
-}
 
-// MapVirtualKeyExW with MAPVK_VSC_TO_VK_EX.
-#[tactic(auto, using(crate::proofs::block::Passed::headed, crate::proofs::block::Read::vkey_at), unfolding(crate::specs::Layout::vkey_for))]
-pub fn vkey_for(block: &[u8], scancode: u16) -> u16
-    requires { block_ok block.now ≡ true }
-    ensures { result ≡ vkey_for (maps_of block.now) scancode }
-{
-    let i = usize::from(scancode);
-    if i < 0x100 {
-        return cell(block, PAGES_FROM + i);
+    // MapVirtualKeyExW with MAPVK_VSC_TO_VK_EX.
+    #[tactic(auto, using(crate::proofs::block::Passed::headed, crate::proofs::block::Read::vkey_at), unfolding(crate::specs::Layout::vkey_for))]
+    pub fn vkey_for(self, scancode: u16) -> u16
+        ensures { result ≡ vkey_for (maps_of self.entry.bytes.now) scancode }
+    {
+        let i = usize::from(scancode);
+        if i < 0x100 {
+            return cell(self.bytes, PAGES_FROM + i);
+        }
+        if i < 0xE000 {
+            return 0;
+        }
+        if i < 0xE200 {
+            return cell(self.bytes, PAGES_FROM + (i - 0xE000 + 0x100));
+        }
+        0
     }
-    if i < 0xE000 {
-        return 0;
-    }
-    if i < 0xE200 {
-        return cell(block, PAGES_FROM + (i - 0xE000 + 0x100));
-    }
-    0
-}
 
-// The non-character key of a virtual key, if it has one.
-#[tactic(auto, using(crate::proofs::block::Passed::headed, crate::proofs::block::Read::non_char_at, crate::proofs::block::Read::non_char_past), unfolding(crate::specs::Layout::non_char_key))]
-fn non_char_key(block: &[u8], vkey: u16) -> Option<u16>
-    requires { block_ok block.now ≡ true }
-    ensures { result ≡ nonzero (non_char_key (maps_of block.now) vkey) }
-{
-    if vkey == 0x12 {
-        return None;
-    }
-    let i = usize::from(vkey);
-    if VKEYS <= i {
-        return None;
-    }
-    match cell(block, i) {
-        0 => None,
-        place => Some(place),
+    // The non-character key of a virtual key, if it has one.
+    #[tactic(auto, using(crate::proofs::block::Passed::headed, crate::proofs::block::Read::non_char_at, crate::proofs::block::Read::non_char_past), unfolding(crate::specs::Layout::non_char_key))]
+    fn non_char_key(self, vkey: u16) -> Option<u16>
+        ensures { result ≡ nonzero (non_char_key (maps_of self.entry.bytes.now) vkey) }
+    {
+        if vkey == 0x12 {
+            return None;
+        }
+        let i = usize::from(vkey);
+        if VKEYS <= i {
+            return None;
+        }
+        match cell(self.bytes, i) {
+            0 => None,
+            place => Some(place),
+        }
     }
 }
 
@@ -221,16 +220,6 @@ fn place(block: &[u8], by_vkey: bool, n: u16, start: usize, key: u64) -> Option<
     None
 }
 
-// Where the entry with that key stands in list j.
-fn place_in(block: &[u8], j: usize, key: u64) -> Option<usize>
-    requires { (block_ok block.now ≡ true) × (j < LISTS) }
-    ensures { result ≡ place_in_list block.now j key }
-{
-    let start = start_of(block, j);
-    let n = area::get_u16(block, COUNTS_AT + 2 * j);
-    place(block, j < LOCK_LISTS, n, start, key)
-}
-
 // The key of the entry at a place.
 #[tactic(auto, unfolding(crate::specs::Layout::found_at))]
 fn found_at(block: &[u8], at: usize) -> LayoutKey
@@ -253,42 +242,54 @@ fn num_lock_list(num_lock_on: bool) -> usize
     if num_lock_on { 0 } else { 1 }
 }
 
-// Where the entry of a key stands: in the Num Lock list, else in the list of the modifiers.
-fn place_for(
-    block: &[u8],
-    mods: WindowsModifiers,
-    num_lock_on: bool,
-    vkey: u16,
-    key: u64,
-) -> Option<usize>
-    requires { block_ok block.now ≡ true }
-    ensures { result ≡ place_for block.now (bits_of mods) num_lock_on vkey key }
-{
-    let list = LOCK_LISTS + mods.bits();
-    place_in(block, num_lock_list(num_lock_on), u64::from(vkey)).or_else(|| place_in(
-        block, list, key,
-    ))
-}
-
-// SCOPE 5.1, tao's Layout::get_key. A virtual key above FF finds nothing in the first two lookups.
-pub fn get_key(
-    block: &[u8],
-    mods: WindowsModifiers,
-    num_lock_on: bool,
-    vkey: u16,
-    scancode: u16,
-    code: KeyCode,
-) -> LayoutKey
-    requires { block_ok block.now ≡ true }
-    ensures { key_in block.now result ≡ get_key (maps_of block.now) (bits_of mods) num_lock_on vkey scancode code }
-{
-    if let Some(place) = non_char_key(block, vkey) {
-        return LayoutKey::bare(Key::Named(place));
+impl Layout<'_> {
+    // Where the entry with that key stands in list j.
+    fn place_in(self, j: usize, key: u64) -> Option<usize>
+        requires { j < LISTS }
+        ensures { result ≡ place_in_list self.entry.bytes.now j key }
+    {
+        let start = start_of(self.bytes, j);
+        let n = area::get_u16(self.bytes, COUNTS_AT + 2 * j);
+        place(self.bytes, j < LOCK_LISTS, n, start, key)
     }
-    let key = keys::key_code::code_key(code);
-    match place_for(block, mods, num_lock_on, vkey, key) {
-        Some(at) => found_at(block, at),
-        None => LayoutKey::bare(Key::Unidentified(NativeKeyCode::Windows(scancode))),
+
+    // Where the entry of a key stands: in the Num Lock list, else in the list of the modifiers.
+    fn place_for(
+        self,
+        mods: WindowsModifiers,
+        num_lock_on: bool,
+        vkey: u16,
+        key: u64,
+    ) -> Option<usize>
+        ensures { result ≡ place_for self.entry.bytes.now (bits_of mods) num_lock_on vkey key }
+    {
+        let list = LOCK_LISTS + mods.bits();
+        // Not `or_else`: nothing is known of a closure that captures a Layout, so its proof doesn't close.
+        match self.place_in(num_lock_list(num_lock_on), u64::from(vkey)) {
+            None => self.place_in(list, key),
+            found => found,
+        }
+    }
+
+    // SCOPE 5.1, tao's Layout::get_key. A virtual key above FF finds nothing in the first two lookups.
+    pub fn get_key(
+        self,
+        mods: WindowsModifiers,
+        num_lock_on: bool,
+        vkey: u16,
+        scancode: u16,
+        code: KeyCode,
+    ) -> LayoutKey
+        ensures { key_in self.entry.bytes.now result ≡ get_key (maps_of self.entry.bytes.now) (bits_of mods) num_lock_on vkey scancode code }
+    {
+        if let Some(place) = self.non_char_key(vkey) {
+            return LayoutKey::bare(Key::Named(place));
+        }
+        let key = keys::key_code::code_key(code);
+        match self.place_for(mods, num_lock_on, vkey, key) {
+            Some(at) => found_at(self.bytes, at),
+            None => LayoutKey::bare(Key::Unidentified(NativeKeyCode::Windows(scancode))),
+        }
     }
 }
 

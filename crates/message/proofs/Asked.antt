@@ -1,7 +1,7 @@
 -- The first question that a call fails, by those put to every call and those behind them; what it passed where it fails none.
 -- Assumes nothing.
 use Rattle.std.specs.Prelude.{Option, Some, None}
-use mathlib.Core.Path.{◌≡◌, refl, sym, ap, ◌∙◌}
+use mathlib.Core.Path.{◌≡◌, refl, sym, ◌∙◌}
 use mathlib.Core.Bool.{Bool, true, false}
 use mathlib.Core.List.{List, [], ◌∷◌, ◌++◌}
 use Prim.Native.Nat.{ℕ}
@@ -81,7 +81,7 @@ module _ (x y : List ℕ) (g : Given) where
 -- ---- what those put to every call say, where all are passed
 
 module _ (x y state block table : List ℕ) (passed : None ≡ first_no (to_every x y state block table)) where
-  each : (question1 x y ≡ true) × (block_ok block ≡ true) × (table_ok table ≡ true) × (session_ok x ≡ true)
+  each : (question1 x y ≡ true) × (session_ok x ≡ true)
   unfolding to_every
   each =
       let p = first-passed 1 (question1 x y) _ passed in
@@ -89,23 +89,17 @@ module _ (x y state block table : List ℕ) (passed : None ≡ first_no (to_ever
       let b = first-passed 3 (block_ok block) _ t.1 in
       let r = first-passed 11 (table_ok table) _ b.1 in
       let s = first-passed 4 (session_ok x) _ r.1 in
-      (p.0, b.0, r.0, s.0)
+      (p.0, s.0)
 
   sizes : (length x ≡ AREA) × (length y ≡ AREA)
   unfolding question1
   sizes = let h = and_true (eqb (length x) AREA) (eqb (length y) AREA) each.0 in (eqb-true (length x) AREA h.0, eqb-true (length y) AREA h.1)
 
   pub asked_area : IsArea x
-  asked_area = record { size = sizes.0; passed = each.3 }
+  asked_area = record { size = sizes.0; passed = each.1 }
 
   pub asked_answers : length y ≡ AREA
   asked_answers = sizes.1
-
-  pub asked_block : block_ok block ≡ true
-  asked_block = each.1
-
-  pub asked_table : table_ok table ≡ true
-  asked_table = each.2
 
 -- ---- 5 to 9
 
@@ -119,24 +113,20 @@ asked_passes s b m k z =
     let nine = first-passed 9 (question9 s m k) _ eight.1 in
     record { held = five.0; entries = seven.0; tokens = eight.0; units = nine.0 }
 
-module _ (x state block table : List ℕ) (m : Message) where
-  -- those of the sort k are those of the message
-  pub of-sort :
-      {k : Sort} → k ≡ sort_of m →
-      first_no (message_questions (decode x) (keyboard_at state block) m k) ≡ first_no (session_questions (decode x) (brought (inputs state block table) m))
+-- a message is taken by its sort k, by the key state s and by the layout b
+module _ (x y state block table : List ℕ) (m : Message) {k : Sort} {s b : List ℕ} (taken : (k ≡ sort_of m) × (s ≡ state) × (b ≡ block)) where
+  -- what it is asked by them is what it is asked
+  pub asked_by :
+      first_no (message_questions (decode x) (keyboard_at s b) m k) ≡ first_no (session_questions (decode x) (brought (inputs state block table) m))
   unfolding session_questions keyboard_of
-  of-sort e = ap (λ (s : Sort). first_no (message_questions (decode x) (keyboard_at state block) m s)) e
+  asked_by = rw (taken.0, taken.1, taken.2) refl
 
--- all that an open counts on
-module _
-    (x y state block table : List ℕ) (m : Message) {k : Sort} (sorted : k ≡ sort_of m)
-    (passed : None ≡ first_no (questions x y (brought (inputs state block table) m)))
-  where
-    pub open_counts : IsArea x × (length y ≡ AREA) × (block_ok block ≡ true) × Passes (decode x) (keyboard_at state block) m k
-    open_counts =
-        let p = all_passed x y (brought (inputs state block table) m) passed in (
-          asked_area x y state block table p.0,
-          asked_answers x y state block table p.0,
-          asked_block x y state block table p.0,
-          asked_passes (decode x) (keyboard_at state block) m k (p.1 ∙ sym (of-sort x state block table m sorted)),
-        )
+  -- all that an open counts on
+  pub open_counts :
+      None ≡ first_no (questions x y (brought (inputs state block table) m)) → IsArea x × (length y ≡ AREA) × Passes (decode x) (keyboard_at s b) m k
+  open_counts passed =
+      let p = all_passed x y (brought (inputs state block table) m) passed in (
+        asked_area x y state block table p.0,
+        asked_answers x y state block table p.0,
+        asked_passes (decode x) (keyboard_at s b) m k (p.1 ∙ sym asked_by),
+      )

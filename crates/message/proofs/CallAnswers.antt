@@ -16,7 +16,7 @@ use Rattle.session.specs.Event.{Event, Held}
 use Rattle.session.specs.Session.{Wait, Session}
 use Rattle.session.specs.Area.{encode, decode, encode_answer}
 use Rattle.session.specs.Builder.{Keyboard, keyboard_of, break_table_of}
-use Rattle.session.specs.Calls.{Sort, sort_of, Effect, message_effect, find_wait, resolved, seen, finish_effect}
+use Rattle.session.specs.Calls.{Sort, sort_of, Effect, message_effect, find_wait, resolved, seen, finish_effect, effect_of}
 use Rattle.session.specs.Questions.{first_no}
 use Rattle.session.specs.Answers.{questions, outcome_by, outcome_of, refusal_number, Said, open_said, finish_said, said_token, result_by, left_by, open_of, finish_of}
 use Rattle.event.specs.Written.{keyboard_at}
@@ -45,15 +45,17 @@ module _ (x y state block table : List ℕ) (r : ProcResult) (m : Message) where
   open_refused why e = sym (opened_as (Some (refusal_number why)) e)
 
   pub open_passed :
-      {k : Sort} → k ≡ sort_of m → None ≡ first_no (questions x y (brought (inputs state block table) m)) → {after : ProcResult} → after ≡ result_by k (decode x) m r →
-      {o : Option PendingMessageToken} {z w : List ℕ} → Gives (message_effect (decode x) (keyboard_at state block) m k) o z w →
+      {k : Sort} {s b : List ℕ} → (k ≡ sort_of m) × (s ≡ state) × (b ≡ block) → None ≡ first_no (questions x y (brought (inputs state block table) m)) →
+      {after : ProcResult} → after ≡ result_by k (decode x) m r →
+      {o : Option PendingMessageToken} {z w : List ℕ} → Gives (message_effect (decode x) (keyboard_at s b) m k) o z w →
       left (open_said (Ok o)) after z w ≡ open_of x y r (inputs state block table) m
   unfolding left_by outcome_by keyboard_of
-  open_passed sorted e h g =
-      let d = ap (message_effect (decode x) (keyboard_at state block) m) sorted ∙ sym (effect-brought (decode x) (inputs state block table) m) in
+  open_passed {k} {s} {b} taken e h g =
+      let d : message_effect (decode x) (keyboard_at s b) m k ≡ effect_of (decode x) (brought (inputs state block table) m) =
+      rw (taken.0, taken.1, taken.2) (sym (effect-brought (decode x) (inputs state block table) m)) in
       same_left
       (g.said ∙ ap (λ (f : Effect). said_token f.token) d)
-      (h ∙ ap (λ (s : Sort). result_by s (decode x) m r) sorted)
+      (h ∙ ap (λ (j : Sort). result_by j (decode x) m r) taken.0)
       (g.session ∙ ap (λ (f : Effect). encode f.after) d)
       (g.answers ∙ ap (λ (f : Effect). encode_answer f.events) d)
       ∙ sym (opened_as None e)
@@ -83,12 +85,13 @@ module _ (x y state block table : List ℕ) (r : ProcResult) (t : ℕ) (n : Opti
   finish-refused why e = sym (finished_as (Some (refusal_number why)) e)
 
   pub finish-passed :
-      None ≡ first_no (questions x y (finished (inputs state block table) t n)) → {p : Option Message} → p ≡ seen n → {z w : List ℕ} →
-      Does (finished_by (decode x) (keyboard_at state block) (table_of table) t p) z w → {done : ⊤} →
+      None ≡ first_no (questions x y (finished (inputs state block table) t n)) → {s b q : List ℕ} → (s ≡ state) × (b ≡ block) × (q ≡ table) →
+      {p : Option Message} → p ≡ seen n → {z w : List ℕ} → Does (finished_by (decode x) (keyboard_at s b) (table_of q) t p) z w → {done : ⊤} →
       left (finish_said (Ok done)) r z w ≡ finish_of x y r (inputs state block table) t n
   unfolding finish_said left_by outcome_by keyboard_of break_table_of
-  finish-passed e h g =
-      let d = ap (λ (q : Option Message). finished_by (decode x) (keyboard_at state block) (table_of table) t q) h ∙ sym (effect-finished (decode x) (inputs state block table) t n) in
+  finish-passed e {s} {b} {q} lent {p} h g =
+      let d : finished_by (decode x) (keyboard_at s b) (table_of q) t p ≡ effect_of (decode x) (finished (inputs state block table) t n) =
+      rw (lent.0, lent.1, lent.2, h) (sym (effect-finished (decode x) (inputs state block table) t n)) in
       same_left
       (ap said_token (sym (finish-token (decode x) (keyboard_at state block) (table_of table) t (seen n) (find_wait t (decode x).entries)) ∙ ap (λ (f : Effect). f.token) (sym (effect-finished (decode x) (inputs state block table) t n))))
       refl

@@ -16,6 +16,8 @@ ghost use Rattle.message.specs.Calls.{inputs, left};
 ghost use Rattle.questions.specs.Asked.{as_no};
 ghost use Rattle.questions.specs.Sorts.{as_sort};
 
+use event::keyboard::Keyboard;
+use questions::Checked;
 use questions::sorts::MessageSort;
 use session::{Message, PendingMessageToken, ProcResult, Refusal};
 
@@ -26,22 +28,29 @@ pub struct Opened {
     pub result: ProcResult,
 }
 
-// The questions that are put to an open: the first that is failed, or what the message is to the calls.
-fn ask_open(
+// What an open takes its message by.
+#[derive(Clone, Copy)]
+struct Passed<'a> {
+    keyboard: Keyboard<'a>,
+    sort: MessageSort,
+}
+
+// The questions that are put to an open: the first that is failed, or what the message is taken by, with what it is to the calls.
+fn ask_open<'a>(
     session: &[u8],
     answers: &[u8],
-    state: &[u8],
-    block: &[u8],
-    table: &[u8],
+    state: &'a [u8],
+    block: &'a [u8],
+    table: &'a [u8],
     message: Message,
-) -> Result<MessageSort, Refusal>
+) -> Result<Passed<'a>, Refusal>
     ensures refusal { as_no result ≡ first_no (questions session.now answers.now (brought (inputs state.now block.now table.now) message)) }
-    ensures sort { IfOk result (λ sort. as_sort sort ≡ sort_of message) }
+    ensures passed { IfOk result (λ passed. (as_sort passed.sort ≡ sort_of message) × (passed.keyboard.state.now ≡ state.now) × (passed.keyboard.layout.bytes.now ≡ block.now)) }
 {
-    questions::ask_areas(session, answers, state, block, table)?; // 1 to 3, 11, 4
+    let keyboard = questions::ask_areas(session, answers, state, block, table)?.keyboard; // 1 to 3, 11, 4
     let sort = questions::sorts::sort_of(message);
-    questions::ask_message(session, state, block, sort, message)?; // 5 to 9
-    Ok(sort)
+    questions::ask_message(session, keyboard, sort, message)?; // 5 to 9
+    Ok(Passed { keyboard, sort })
 }
 
 // SCOPE 1.1, 2.2: takes a message. `res` is the message result as it was.
@@ -61,10 +70,10 @@ pub fn open(
             answer: Err(no),
             result: res,
         },
-        Ok(sort) => {
+        Ok(Passed { keyboard, sort }) => {
             let h = record::read::header_at(session);
             let after = crate::opening::result_after(sort, h.held, message, res);
-            let token = crate::opening::open_by(session, answers, state, block, sort, message);
+            let token = crate::opening::open_by(session, answers, keyboard, sort, message);
             Opened {
                 answer: Ok(token),
                 result: after,
@@ -85,9 +94,9 @@ pub fn finish(
 ) -> Result<(), Refusal>
     ensures { (was : ProcResult) → left (finish_said result) was session.new answers.new ≡ finish_of session.old answers.old was (inputs state.now block.now table.now) token.0 peeked }
 {
-    questions::ask_areas(session, answers, state, block, table)?;
+    let Checked { keyboard, table } = questions::ask_areas(session, answers, state, block, table)?;
     questions::ask_finish(session, token)?;
     let seen = event::peeked::seen(peeked);
-    crate::finishing::finish_open(session, answers, state, block, table, token, seen);
+    crate::finishing::finish_open(session, answers, keyboard, table, token, seen);
     Ok(())
 }

@@ -1,6 +1,5 @@
 // What an open does once its questions are passed: tao's KeyEventBuilder::process_message up to the peek.
 ghost use Rattle.std.specs.Prelude.{true, [], ◌≡◌, ◌<◌, length, None};
-ghost use Rattle.lookup.specs.Block.{block_ok};
 ghost use Rattle.lookup.specs.LParam.{key_lparam, virtual_key};
 ghost use Rattle.session.specs.Answers.{result_by};
 ghost use Rattle.session.specs.Area.{encode, decode, encode_answer};
@@ -16,35 +15,36 @@ ghost use Rattle.message.specs.Gives.{Gives, MayChar, FitBehind, followed};
 ghost use Rattle.message.specs.Passes.{Passes};
 ghost use Rattle.questions.specs.Sorts.{as_sort};
 
+use event::keyboard::Keyboard;
 use questions::sorts::MessageSort;
 use session::{ElementState, Message, PendingMessageToken, ProcResult, WM_SYSKEYDOWN};
 
 // ---- a focus change (complete_multi)
 
 // Straight to the answer area.
-fn hand_out_focus(answers: &mut [u8], state: &[u8], block: &[u8], st: ElementState)
-    requires { (length answers.old ≡ AREA) × (block_ok block.now ≡ true) }
-    ensures { answers.new ≡ encode_answer (focus_events (keyboard_at state.now block.now) st) }
+fn hand_out_focus(answers: &mut [u8], keyboard: Keyboard<'_>, st: ElementState)
+    requires { length answers.old ≡ AREA }
+    ensures { answers.new ≡ encode_answer (focus_events (keyboard_at keyboard.entry.state.now keyboard.entry.layout.bytes.now) st) }
 {
-    let written = event::focus::focus_keys(state, block, st);
+    let written = event::focus::focus_keys(keyboard, st);
     let keys = written.as_slice();
     for i in 0..keys.len() {
-        let event = event::focus::synthetic_event(state, block, st, keys[i]);
-        queue::answers::put_event_at(answers, i, block, event);
+        let event = event::focus::synthetic_event(keyboard, st, keys[i]);
+        queue::answers::put_event_at(answers, i, keyboard.layout.bytes, event);
     }
     queue::answers::close(answers, keys.len());
 }
 
 // As completed entries behind the last one, each under a token of its own.
-fn queue_focus(session: &mut [u8], state: &[u8], block: &[u8], st: ElementState)
-    requires { IsArea session.old × (block_ok block.now ≡ true) × (0 < length (decode session.old).entries) × FitBehind (decode session.old) (focus_events (keyboard_at state.now block.now) st) }
-    ensures { session.new ≡ encode (followed (decode session.old) (focus_events (keyboard_at state.now block.now) st)) }
+fn queue_focus(session: &mut [u8], keyboard: Keyboard<'_>, st: ElementState)
+    requires { IsArea session.old × (0 < length (decode session.old).entries) × FitBehind (decode session.old) (focus_events (keyboard_at keyboard.state.now keyboard.layout.bytes.now) st) }
+    ensures { session.new ≡ encode (followed (decode session.old) (focus_events (keyboard_at keyboard.entry.state.now keyboard.entry.layout.bytes.now) st)) }
 {
-    let written = event::focus::focus_keys(state, block, st);
+    let written = event::focus::focus_keys(keyboard, st);
     let keys = written.as_slice();
     for i in 0..keys.len() {
-        let event = event::focus::synthetic_event(state, block, st, keys[i]);
-        queue::pending::add_event(session, block, event);
+        let event = event::focus::synthetic_event(keyboard, st, keys[i]);
+        queue::pending::add_event(session, keyboard.layout.bytes, event);
     }
 }
 
@@ -70,17 +70,16 @@ fn open_press(
 fn open_release(
     session: &mut [u8],
     answers: &mut [u8],
-    state: &[u8],
-    block: &[u8],
+    keyboard: Keyboard<'_>,
     message: Message,
 ) -> Option<PendingMessageToken>
-    requires { HasRoom session.old × (length answers.old ≡ AREA) × (block_ok block.now ≡ true) }
-    ensures { Gives (opening (decode session.old) (release (from_message (keyboard_at state.now block.now) (virtual_key message.wparam) (key_lparam message.lparam))) (decode session.old).held) result session.new answers.new }
+    requires { HasRoom session.old × (length answers.old ≡ AREA) }
+    ensures { Gives (opening (decode session.old) (release (from_message (keyboard_at keyboard.entry.state.now keyboard.entry.layout.bytes.now) (virtual_key message.wparam) (key_lparam message.lparam))) (decode session.old).held) result session.new answers.new }
 {
     let vkey = lookup::keyboard::virtual_key(message.wparam);
     let l = lookup::keyboard::destructure_key_lparam(message.lparam);
-    let info = event::partial::from_message(state, block, vkey, l);
-    let token = queue::pending::add_release(session, block, info);
+    let info = event::partial::from_message(keyboard, vkey, l);
+    let token = queue::pending::add_release(session, keyboard.layout.bytes, info);
     queue::answers::no_events(answers);
     Some(token) // the release
 }
@@ -138,19 +137,18 @@ fn answer_dead_char(session: &mut [u8], answers: &mut [u8]) -> Option<PendingMes
 fn answer_focus(
     session: &mut [u8],
     answers: &mut [u8],
-    state: &[u8],
-    block: &[u8],
+    keyboard: Keyboard<'_>,
     st: ElementState,
 ) -> Option<PendingMessageToken>
-    requires { IsArea session.old × (block_ok block.now ≡ true) × (length answers.old ≡ AREA) × FitBehind (decode session.old) (focus_events (keyboard_at state.now block.now) st) }
-    ensures { Gives (behind (decode session.old) (focus_events (keyboard_at state.now block.now) st) (decode session.old).held (decode session.old).entries) result session.new answers.new }
+    requires { IsArea session.old × (length answers.old ≡ AREA) × FitBehind (decode session.old) (focus_events (keyboard_at keyboard.state.now keyboard.layout.bytes.now) st) }
+    ensures { Gives (behind (decode session.old) (focus_events (keyboard_at keyboard.entry.state.now keyboard.entry.layout.bytes.now) st) (decode session.old).held (decode session.old).entries) result session.new answers.new }
 {
     let h = record::read::header_at(session);
     if h.count == 0 { // before the focus change
-        hand_out_focus(answers, state, block, st);
+        hand_out_focus(answers, keyboard, st);
         return None;
     }
-    queue_focus(session, state, block, st);
+    queue_focus(session, keyboard, st);
     queue::answers::no_events(answers);
     None
 }
@@ -161,20 +159,19 @@ fn answer_focus(
 pub fn open_by(
     session: &mut [u8],
     answers: &mut [u8],
-    state: &[u8],
-    block: &[u8],
+    keyboard: Keyboard<'_>,
     sort: MessageSort,
     message: Message,
 ) -> Option<PendingMessageToken>
-    requires { IsArea session.old × (length answers.old ≡ AREA) × (block_ok block.now ≡ true) × Passes (decode session.old) (keyboard_at state.now block.now) message (as_sort sort) }
-    ensures { Gives (message_effect (decode session.old) (keyboard_at state.now block.now) message (as_sort sort)) result session.new answers.new }
+    requires { IsArea session.old × (length answers.old ≡ AREA) × Passes (decode session.old) (keyboard_at keyboard.state.now keyboard.layout.bytes.now) message (as_sort sort) }
+    ensures { Gives (message_effect (decode session.old) (keyboard_at keyboard.entry.state.now keyboard.entry.layout.bytes.now) message (as_sort sort)) result session.new answers.new }
 {
     match sort {
         MessageSort::KeyDown => open_press(session, answers, message),
-        MessageSort::KeyUp => open_release(session, answers, state, block, message),
+        MessageSort::KeyUp => open_release(session, answers, keyboard, message),
         MessageSort::Char => open_char(session, answers, message),
         MessageSort::DeadChar => answer_dead_char(session, answers),
-        MessageSort::Focus(st) => answer_focus(session, answers, state, block, st),
+        MessageSort::Focus(st) => answer_focus(session, answers, keyboard, st),
         MessageSort::Ignored => open_none(answers),
     }
 }

@@ -5,8 +5,7 @@
 pub mod check;
 pub mod sorts;
 
-ghost use Rattle.std.specs.Prelude.{true, ◌≡◌, ℕ, ◌≤◌};
-ghost use Rattle.lookup.specs.Block.{block_ok};
+ghost use Rattle.std.specs.Prelude.{◌≡◌, ℕ, ◌≤◌, IfOk};
 ghost use Rattle.session.specs.Area.{decode};
 ghost use Rattle.session.specs.Calls.{char};
 ghost use Rattle.session.specs.Limits.{ENTRIES_MOST as entries_most};
@@ -17,6 +16,9 @@ ghost use Rattle.questions.specs.Asked.{as_no, to_every};
 ghost use Rattle.questions.specs.Sorts.{as_sort};
 
 use crate::sorts::MessageSort;
+use event::keyboard::Keyboard;
+use lookup::block::Layout;
+use segmentation::break_table::BreakTable;
 use session::{
     AREA_SIZE, ENTRIES_MOST, KEY_STATE_SIZE, Message, OPEN_MOST, PendingMessageToken, Refusal,
     TOKENS_MOST, UNITS_MOST,
@@ -24,16 +26,24 @@ use session::{
 
 // ---- put to every call
 
-// 1 to 3, 11 and 4, put to every call: the first that is failed.
+// What was lent to a call and passed the questions.
+#[derive(Clone, Copy)]
+pub struct Checked<'a> {
+    pub keyboard: Keyboard<'a>,
+    pub table: BreakTable<'a>,
+}
+
+// 1 to 3, 11 and 4, put to every call: the first that is failed, or what was lent.
 #[tactic(auto, unfolding(crate::specs::Asked::as_no, crate::specs::Asked::to_every, session::specs::Answers::refusal_number, session::specs::Questions::question1, session::specs::Questions::first_no))]
-pub fn ask_areas(
+pub fn ask_areas<'a>(
     session: &[u8],
     answers: &[u8],
-    state: &[u8],
-    block: &[u8],
-    table: &[u8],
-) -> Result<(), Refusal>
-    ensures { as_no result ≡ first_no (to_every session.now answers.now state.now block.now table.now) }
+    state: &'a [u8],
+    block: &'a [u8],
+    table: &'a [u8],
+) -> Result<Checked<'a>, Refusal>
+    ensures refusal { as_no result ≡ first_no (to_every session.now answers.now state.now block.now table.now) }
+    ensures checked { IfOk result (λ checked. (checked.keyboard.state.now ≡ state.now) × (checked.keyboard.layout.bytes.now ≡ block.now) × (checked.table.bytes.now ≡ table.now)) }
 {
     if session.len() != AREA_SIZE {
         return Err(Refusal::AreaSize);
@@ -44,16 +54,13 @@ pub fn ask_areas(
     if state.len() != KEY_STATE_SIZE {
         return Err(Refusal::KeyStateSize);
     }
-    if !lookup::block::block_ok(block) {
-        return Err(Refusal::Block);
-    }
-    if !segmentation::break_table::table_ok(table) {
-        return Err(Refusal::Table);
-    }
+    let layout = Layout::new(block).ok_or(Refusal::Block)?;
+    let table = BreakTable::new(table).ok_or(Refusal::Table)?;
     if !crate::check::session_ok(session) {
         return Err(Refusal::Session);
     }
-    Ok(()) // those put to every call
+    let keyboard = Keyboard { state, layout };
+    Ok(Checked { keyboard, table }) // those put to every call
 }
 
 // ---- what a message asks for, of a session's area
@@ -74,16 +81,16 @@ fn opens(session: &[u8], sort: MessageSort) -> bool
 
 // SCOPE 6.0: how many entries it needs, and so many tokens. Focus on an empty queue needs none.
 #[tactic(auto, unfolding(crate::specs::Sorts::as_sort, session::specs::Questions::new_entries))]
-fn new_entries(session: &[u8], state: &[u8], block: &[u8], sort: MessageSort) -> usize
-    requires { IsArea session.now × (block_ok block.now ≡ true) }
-    ensures { (result ≡ new_entries (decode session.now) (keyboard_at state.now block.now) (as_sort sort)) × (result ≤ entries_most) }
+fn new_entries(session: &[u8], keyboard: Keyboard<'_>, sort: MessageSort) -> usize
+    requires { IsArea session.now }
+    ensures { (result ≡ new_entries (decode session.now) (keyboard_at keyboard.entry.state.now keyboard.entry.layout.bytes.now) (as_sort sort)) × (result ≤ entries_most) }
 {
     let h = record::read::header_at(session);
     match sort {
         MessageSort::KeyDown | MessageSort::KeyUp | MessageSort::DeadChar => 1,
         MessageSort::Char => usize::from(h.held),
         MessageSort::Focus(_) if h.count == 0 => 0,
-        MessageSort::Focus(st) => event::focus::focus_count(state, block, st),
+        MessageSort::Focus(st) => event::focus::focus_count(keyboard, st),
         MessageSort::Ignored => 0,
     }
 }
@@ -142,13 +149,12 @@ fn may_open(session: &[u8], sort: MessageSort) -> bool
 #[tactic(auto, unfolding(crate::specs::Asked::as_no, session::specs::Answers::refusal_number, session::specs::Questions::message_questions, session::specs::Questions::question7, session::specs::Questions::question8, session::specs::Questions::question9, session::specs::Questions::first_no))]
 pub fn ask_message(
     session: &[u8],
-    state: &[u8],
-    block: &[u8],
+    keyboard: Keyboard<'_>,
     sort: MessageSort,
     message: Message,
 ) -> Result<(), Refusal>
-    requires { IsArea session.now × (block_ok block.now ≡ true) }
-    ensures { as_no result ≡ first_no (message_questions (decode session.now) (keyboard_at state.now block.now) message (as_sort sort)) }
+    requires { IsArea session.now }
+    ensures { as_no result ≡ first_no (message_questions (decode session.now) (keyboard_at keyboard.entry.state.now keyboard.entry.layout.bytes.now) message (as_sort sort)) }
 {
     if !has_press(session, sort) {
         return Err(Refusal::NothingHeld);
@@ -157,7 +163,7 @@ pub fn ask_message(
         return Err(Refusal::TooManyOpen);
     }
     let h = record::read::header_at(session);
-    let new = new_entries(session, state, block, sort);
+    let new = new_entries(session, keyboard, sort);
     if ENTRIES_MOST < h.count as usize + new {
         return Err(Refusal::QueueFull);
     }

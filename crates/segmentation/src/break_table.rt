@@ -1,5 +1,5 @@
 // The lent table of break classes: question 11, and the properties of a scalar value.
-ghost use Rattle.std.specs.Prelude.{true, ◌≡◌, ◌≤◌, length};
+ghost use Rattle.std.specs.Prelude.{true, false, ◌≡◌, length, MatchOption};
 ghost use Rattle.area.specs.Walk.{every};
 ghost use Rattle.segmentation.specs.Layout.{count_in, size_of, after_last, ends_ok, ends_at, kind_ok, known_at, props_by, table_of, table_ok};
 ghost use Rattle.segmentation.specs.Table.{props_in};
@@ -106,26 +106,46 @@ fn props_by(kind: u8) -> Props
     }
 }
 
-// By halving: the ranges rise. std's searches take a slice of elements, and these stand in columns of bytes.
-pub fn props_at(table: &[u8], scalar: u32) -> Props
-    requires { table_ok table.now ≡ true }
-    ensures { result ≡ props_in (table_of table.now) scalar }
-{
-    let n = area::get_u32(table, 4) as usize;
-    let mut low: usize = 0;
-    let mut high = n;
-    while low < high {
-        let middle = low + (high - low) / 2;
-        if scalar < area::get_u32(table, HEAD + 4 * middle) {
-            high = middle;
-        } else if scalar <= area::get_u32(table, HEAD + 4 * n + 4 * middle) {
-            return props_by(table[HEAD + 8 * n + middle]);
-        } else {
-            low = middle + 1;
+// ---- the table
+
+// A break table, which passed question 11.
+#[derive(Clone, Copy)]
+pub struct BreakTable<'a> {
+    pub bytes: &'a [u8],
+    ghost whole: { table_ok bytes.now ≡ true },
+}
+
+impl<'a> BreakTable<'a> {
+    // The break table that the bytes are, if they are one.
+    pub fn new(bytes: &'a [u8]) -> Option<Self>
+        ensures { MatchOption result (table_ok bytes.now ≡ false) (λ table. table.bytes.now ≡ bytes.now) }
+    {
+        if !table_ok(bytes) {
+            return None;
         }
+        Some(Self { bytes })
     }
-    Props {
-        class: OTHER,
-        pictographic: false,
+
+    // By halving: the ranges rise. std's searches take a slice of elements, and these stand in columns of bytes.
+    pub fn props_at(self, scalar: u32) -> Props
+        ensures { result ≡ props_in (table_of self.entry.bytes.now) scalar }
+    {
+        let n = area::get_u32(self.bytes, 4) as usize;
+        let mut low: usize = 0;
+        let mut high = n;
+        while low < high {
+            let middle = low + (high - low) / 2;
+            if scalar < area::get_u32(self.bytes, HEAD + 4 * middle) {
+                high = middle;
+            } else if scalar <= area::get_u32(self.bytes, HEAD + 4 * n + 4 * middle) {
+                return props_by(self.bytes[HEAD + 8 * n + middle]);
+            } else {
+                low = middle + 1;
+            }
+        }
+        Props {
+            class: OTHER,
+            pictographic: false,
+        }
     }
 }

@@ -5,11 +5,12 @@
 pub mod break_table;
 pub mod grapheme;
 
-ghost use Rattle.std.specs.Prelude.{true, ◌≡◌, drop};
+ghost use Rattle.std.specs.Prelude.{◌≡◌, drop};
 ghost use Rattle.segmentation.specs.Forward.{breaks_by};
-ghost use Rattle.segmentation.specs.Layout.{table_of, table_ok};
+ghost use Rattle.segmentation.specs.Layout.{table_of};
 ghost use Rattle.segmentation.specs.Table.{several_in};
 
+use crate::break_table::BreakTable;
 use crate::grapheme::Behind;
 
 // What a table says of a scalar value: its break class and its pictographic mark.
@@ -20,14 +21,13 @@ pub struct Props {
 }
 
 // Whether some piece ends before a scalar value from `from` on, behind what stands before.
-fn breaks_from(table: &[u8], text: &[u8], from: usize, before: Behind) -> bool
-    requires { table_ok table.now ≡ true }
-    ensures { result ≡ breaks_by (table_of table.now) before (drop from text.now) }
+fn breaks_from(table: BreakTable<'_>, text: &[u8], from: usize, before: Behind) -> bool
+    ensures { result ≡ breaks_by (table_of table.entry.bytes.now) before (drop from text.now) }
 {
     let mut behind = before;
     let mut i = from;
     while let Some((scalar, n)) = text::utf8::utf8_step(text, i) {
-        let p = crate::break_table::props_at(table, scalar);
+        let p = table.props_at(scalar);
         if crate::grapheme::breaks(behind, p) {
             return true;
         }
@@ -38,9 +38,8 @@ fn breaks_from(table: &[u8], text: &[u8], from: usize, before: Behind) -> bool
 }
 
 // SCOPE 3.13: whether a text has several pieces. For one scalar value, which most texts are, the table is not asked.
-pub fn several_pieces(table: &[u8], text: &[u8]) -> bool
-    requires { table_ok table.now ≡ true }
-    ensures { result ≡ several_in (table_of table.now) text.now }
+pub fn several_pieces(table: BreakTable<'_>, text: &[u8]) -> bool
+    ensures { result ≡ several_in (table_of table.entry.bytes.now) text.now }
 {
     let Some((scalar, n)) = text::utf8::utf8_step(text, 0) else {
         return false;
@@ -48,6 +47,6 @@ pub fn several_pieces(table: &[u8], text: &[u8]) -> bool
     if text.len() <= n {
         return false;
     }
-    let p = crate::break_table::props_at(table, scalar);
+    let p = table.props_at(scalar);
     breaks_from(table, text, n, crate::grapheme::first(p))
 }

@@ -3,11 +3,8 @@
 // text, or found zeros.
 #![tactic(auto)]
 
-ghost use Rattle.std.specs.Prelude.{true, ◌≡◌};
-ghost use Rattle.lookup.specs.Block.{block_ok};
-
-use lookup::block::block_ok;
-use lookup::keyboard_layout::{WindowsModifiers, get_key, scancode_for};
+use lookup::block::{Layout, block_ok};
+use lookup::keyboard_layout::WindowsModifiers;
 use lookup::keycode::keycode_from_scancode;
 use segmentation::break_table::table_ok;
 use std::env::Env;
@@ -40,11 +37,9 @@ fn check_table(table: &mut [u8], i: u64) -> bool {
 }
 
 // A lookup: whether it finds a character.
-fn finds(block: &[u8], i: u64) -> bool
-    requires { block_ok block.now ≡ true }
-{
+fn finds(layout: Layout<'_>, i: u64) -> bool {
     let vkey = (i % 256) as u16;
-    let scancode = scancode_for(block, vkey);
+    let scancode = layout.scancode_for(vkey);
     let code = keycode_from_scancode(scancode);
     let modifiers = WindowsModifiers {
         shift: i / 256 % 2 == 1,
@@ -52,7 +47,7 @@ fn finds(block: &[u8], i: u64) -> bool
         alt: i / 1024 % 2 == 1,
         caps_lock: i / 2048 % 2 == 1,
     };
-    let found = get_key(block, modifiers, i / 4096 % 2 == 1, vkey, scancode, code);
+    let found = layout.get_key(modifiers, i / 4096 % 2 == 1, vkey, scancode, code);
     found.len != 0
 }
 
@@ -86,10 +81,10 @@ fn repeat<F: FnMut(u64) -> bool>(rounds: u64, mut passes: F) -> u64
 }
 
 fn look_up(block: &[u8], rounds: u64) -> u64 {
-    if !block_ok(block) {
+    let Some(layout) = Layout::new(block) else {
         return 0;
-    }
-    repeat(rounds, |i| finds(block, i))
+    };
+    repeat(rounds, |i| finds(layout, i))
 }
 
 // Prints what is counted over a file.

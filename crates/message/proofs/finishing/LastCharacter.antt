@@ -9,7 +9,6 @@ use native.Mathlib.Omega.{arith}
 use lib.ListN.{length, take, drop, get_or, length-drop}
 use Rattle.area.specs.Pick.{pick}
 use Rattle.area.proofs.Splice.{part_rest}
-use Rattle.segmentation.specs.Layout.{table_ok}
 use Rattle.segmentation.specs.Table.{Table}
 use Rattle.lookup.specs.Codes.{key_code_of}
 use Rattle.session.specs.Limits.{AREA, ENTRIES_MOST, TEXT_MOST, ANSWER_EVENTS_AT}
@@ -47,12 +46,12 @@ field-later (suc n) x y {k} z e = part_rest k x ∙ ap (λ (m : ℕ). drop m x) 
 
 -- what `event::character::last_key` asks for, of a field f that is that text's
 pub field-reads :
-    (place : ℕ) (x y table : List ℕ) → length x ≡ AREA → length y ≡ AREA → place < ENTRIES_MOST → table_ok table ≡ true →
+    (place : ℕ) (x y : List ℕ) → length x ≡ AREA → length y ≡ AREA → place < ENTRIES_MOST →
     get_or (text_field place x y) 0 0 ≤ TEXT_MOST → {f : List ℕ} → f ≡ text_field place x y →
-    (table_ok table ≡ true) × (TEXT_MOST + 1 ≤ length f) × (get_or f 0 0 ≤ TEXT_MOST)
+    (TEXT_MOST + 1 ≤ length f) × (get_or f 0 0 ≤ TEXT_MOST)
 unfolding text_field
-field-reads zero x y table l m n t g e = rw e (t, omega (arith, length-drop (ANSWER_EVENTS_AT + 62) y), g)
-field-reads (suc i) x y table l m n t g e = rw e (t, omega (arith, length-drop (event_place (suc i) + 62) x), g)
+field-reads zero x y l m n g e = rw e (omega (arith, length-drop (ANSWER_EVENTS_AT + 62) y), g)
+field-reads (suc i) x y l m n g e = rw e (omega (arith, length-drop (event_place (suc i) + 62) x), g)
 
 text-stands :
     (place : ℕ) (s : List ℕ) {x y x' y' : List ℕ} → Completing x y place → length s ≡ TEXT_MOST + 1 → FieldStands place 62 s x y x' y' →

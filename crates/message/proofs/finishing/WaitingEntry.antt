@@ -15,7 +15,6 @@ use Rattle.area.proofs.Splice.{part_rest}
 use Rattle.segmentation.specs.Table.{Table}
 use Rattle.keys.specs.Text.{bare_of}
 use Rattle.keys.specs.declared.Key.{Key}
-use Rattle.lookup.specs.Block.{block_ok}
 use Rattle.lookup.specs.declared.keyboard.KeyLParam.{KeyLParam}
 use Rattle.session.specs.Limits.{AREA, ENTRIES_MOST, ENTRIES_AT, ENTRY_SIZE, KEY_TEXT_MOST}
 use Rattle.session.specs.Event.{Info}
@@ -95,19 +94,18 @@ module _ (x : List ℕ) (b : (i : ℕ) → get_or x i 0 < 256) (own : IsArea x) 
 -- ---- of which case it is
 
 pub entry_found :
-    (x y block : List ℕ) (t place : ℕ) → StandsAt x t place → length y ≡ AREA → block_ok block ≡ true → (k : Pending) {q : Pending} {n : ℕ} →
-    q ≡ pending_of (entry.get (take (length x - n) (drop n x))) → q ≡ k → n ≡ ENTRIES_AT + ENTRY_SIZE * place → EntryAt k x y block t place
-entry_found x y block t place s l b k {n = n} e g i =
+    (x y : List ℕ) (t place : ℕ) → StandsAt x t place → length y ≡ AREA → (k : Pending) {q : Pending} {n : ℕ} →
+    q ≡ pending_of (entry.get (take (length x - n) (drop n x))) → q ≡ k → n ≡ ENTRIES_AT + ENTRY_SIZE * place → EntryAt k x y t place
+entry_found x y t place s l k {n = n} e g i =
     record {
       stands = s;
       answers = l;
-      block-ok = b;
       case = ap (λ (s : List ℕ). pending_of (entry.get s)) (sym (part_rest n x ∙ ap (λ (m : ℕ). drop m x) i)) ∙ sym e ∙ g;
     }
 
 -- ---- the bytes from the entry's first on, and from one of its parts on
 
-module _ (k : Pending) (x y block : List ℕ) (t place : ℕ) (a : EntryAt k x y block t place) where
+module _ (k : Pending) (x y : List ℕ) (t place : ℕ) (a : EntryAt k x y t place) where
   abbrev here : List ℕ
   here = drop (ENTRIES_AT + ENTRY_SIZE * place) x
 
@@ -140,28 +138,28 @@ module _ (k : Pending) (x y block : List ℕ) (t place : ℕ) (a : EntryAt k x y
 
 -- ---- an open press, read from byte k of the area on
 
-module _ (x y block : List ℕ) (t place : ℕ) (a : EntryAt case.Press x y block t place) (b : (i : ℕ) → get_or x i 0 < 256) where
+module _ (x y : List ℕ) (t place : ℕ) (a : EntryAt case.Press x y t place) (b : (i : ℕ) → get_or x i 0 < 256) where
   pub press-reads :
       {k : ℕ} → k ≤ length x → k ≡ ENTRIES_AT + ENTRY_SIZE * place + 4 →
       (5 ≤ length (take (length x - k) (drop k x))) × (pressed.ok (take (length x - k) (drop k x)) ≡ true)
   press-reads _ e =
       let l = drop (ENTRIES_AT + ENTRY_SIZE * place) x in
-      rw (part case.Press x y block t place a 4 e)
-      (long case.Press x y block t place a 4 5 (omega arith) b, press-ok l a.case (in_order_lem case.Press x y block t place a))
+      rw (part case.Press x y t place a 4 e)
+      (long case.Press x y t place a 4 5 (omega arith) b, press-ok l a.case (in_order_lem case.Press x y t place a))
 
   pub press_waits :
       (vkey : ℕ) (l : KeyLParam) {k : ℕ} → (vkey, l) ≡ pressed.get (take (length x - k) (drop k x)) → k ≡ ENTRIES_AT + ENTRY_SIZE * place + 4 →
       find_wait t (decode x).entries ≡ Some (press vkey l)
   press_waits vkey l g e =
       let h = drop (ENTRIES_AT + ENTRY_SIZE * place) x in
-      waits_here case.Press x y block t place a
+      waits_here case.Press x y t place a
       ∙ ap wait_in (press_at h a.case)
-      ∙ ap (λ (q : ℕ × KeyLParam). Some (press q.0 q.1)) (sym (g ∙ ap pressed.get (part case.Press x y block t place a 4 e)))
+      ∙ ap (λ (q : ℕ × KeyLParam). Some (press q.0 q.1)) (sym (g ∙ ap pressed.get (part case.Press x y t place a 4 e)))
 
   pub press_range : (vkey : ℕ) (l : KeyLParam) → find_wait t (decode x).entries ≡ Some (press vkey l) → (vkey < 65536) × (l.scancode < 256)
   unfolding wait_fits
   press_range vkey l e =
-      let f : (ltb vkey 65536 && ltb l.scancode 256) ≡ true = rw e at (waits_fit case.Press x y block t place a b) in
+      let f : (ltb vkey 65536 && ltb l.scancode 256) ≡ true = rw e at (waits_fit case.Press x y t place a b) in
       let g = and_true (ltb vkey 65536) (ltb l.scancode 256) f in (ltb-true vkey 65536 g.0, ltb-true l.scancode 256 g.1)
 
 -- ---- an open release, as it is kept in its entry
@@ -170,22 +168,22 @@ module _ (x y block : List ℕ) (t place : ℕ) (a : EntryAt case.Press x y bloc
 abbrev pub info_at : List ℕ → ℕ → Info
 info_at x place = info.get (drop (info_place place) x)
 
-module _ (x y block : List ℕ) (t place : ℕ) (a : EntryAt case.Release x y block t place) (b : (i : ℕ) → get_or x i 0 < 256) where
+module _ (x y : List ℕ) (t place : ℕ) (a : EntryAt case.Release x y t place) (b : (i : ℕ) → get_or x i 0 < 256) where
   kept_part : drop (info_place place) x ≡ drop 5 (drop (ENTRIES_AT + ENTRY_SIZE * place) x)
   kept_part = sym (drop-drop 5 (ENTRIES_AT + ENTRY_SIZE * place) x)
 
   pub release_passes : info.ok (drop (info_place place) x) ≡ true
-  release_passes = rw kept_part (release-ok (drop (ENTRIES_AT + ENTRY_SIZE * place) x) a.case (in_order_lem case.Release x y block t place a))
+  release_passes = rw kept_part (release-ok (drop (ENTRIES_AT + ENTRY_SIZE * place) x) a.case (in_order_lem case.Release x y t place a))
 
   pub release_waits : find_wait t (decode x).entries ≡ Some (release (info_at x place))
   release_waits =
-      waits_here case.Release x y block t place a
+      waits_here case.Release x y t place a
       ∙ ap wait_in (release_at (drop (ENTRIES_AT + ENTRY_SIZE * place) x) a.case)
       ∙ ap (λ (l : List ℕ). Some (release (info.get l))) (sym kept_part)
 
   -- its logical key is read from byte k of the area on
   pub key_reads : {k : ℕ} → k ≤ length x → k ≡ info_place place + 4 → 7 ≤ length (take (length x - k) (drop k x))
-  key_reads {k} _ e = rw (part_rest k x) (omega (arith, few case.Release x y block t place a b, a.stands.area.size, length-drop k x))
+  key_reads {k} _ e = rw (part_rest k x) (omega (arith, few case.Release x y t place a b, a.stands.area.size, length-drop k x))
 
   pub key-read :
       {k : ℕ} {r : Key} → r ≡ bare_of ((full_key KEY_TEXT_MOST).get (take (length x - k) (drop k x))) → k ≡ info_place place + 4 →
@@ -197,17 +195,17 @@ module _ (x y block : List ℕ) (t place : ℕ) (a : EntryAt case.Release x y bl
 
   pub release_range : (n : Info) → find_wait t (decode x).entries ≡ Some (release n) → info_fits n ≡ true
   unfolding wait_fits
-  release_range n e = rw e at (waits_fit case.Release x y block t place a b)
+  release_range n e = rw e at (waits_fit case.Release x y t place a b)
 
 -- ---- an open character
 
 pub character_waits :
-    (x y block : List ℕ) (t place : ℕ) → EntryAt case.Character x y block t place → find_wait t (decode x).entries ≡ Some character
-character_waits x y block t place a =
-    waits_here case.Character x y block t place a ∙ ap wait_in (character_at (drop (ENTRIES_AT + ENTRY_SIZE * place) x) a.case)
+    (x y : List ℕ) (t place : ℕ) → EntryAt case.Character x y t place → find_wait t (decode x).entries ≡ Some character
+character_waits x y t place a =
+    waits_here case.Character x y t place a ∙ ap wait_in (character_at (drop (ENTRIES_AT + ENTRY_SIZE * place) x) a.case)
 
 -- ---- a complete entry does not wait
 
-pub completed : (x y block : List ℕ) (t place : ℕ) → EntryAt case.Complete x y block t place → find_wait t (decode x).entries ≡ None
-completed x y block t place a =
-    waits_here case.Complete x y block t place a ∙ ap wait_in (complete_at (drop (ENTRIES_AT + ENTRY_SIZE * place) x) a.case)
+pub completed : (x y : List ℕ) (t place : ℕ) → EntryAt case.Complete x y t place → find_wait t (decode x).entries ≡ None
+completed x y t place a =
+    waits_here case.Complete x y t place a ∙ ap wait_in (complete_at (drop (ENTRIES_AT + ENTRY_SIZE * place) x) a.case)

@@ -14,17 +14,17 @@ pub header_at-h-requires : goal.header_at-h-requires
 unfolding as_no
 header_at-h-requires c =
     let e = c.in-Ok.ensures in
-    let p = open_counts _ _ _ _ _ _ e.sort e.refusal in
+    let p = open_counts _ _ _ _ _ _ e.passed e.refusal in
     omega (arith, p.0.size)
 
 pub open_by-token-requires : goal.open_by-token-requires
 unfolding as_no
 open_by-token-requires c =
     let e = c.in-Ok.ensures in
-    open_counts _ _ _ _ _ _ e.sort e.refusal
+    open_counts _ _ _ _ _ _ e.passed e.refusal
 
 pub returns-in-Ok : goal.returns-in-Ok
 unfolding as_no
 returns-in-Ok c =
     let e = c.in-Ok.ensures in
-    open_passed _ _ _ _ _ _ _ e.sort e.refusal (c.result_after-after.ensures _ (sym c.header_at-h.ensures.1)) c.open_by-token.ensures
+    open_passed _ _ _ _ _ _ _ e.passed e.refusal (c.result_after-after.ensures _ (sym c.header_at-h.ensures.1)) c.open_by-token.ensures

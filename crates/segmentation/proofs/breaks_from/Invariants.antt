@@ -7,7 +7,7 @@ use Rattle.segmentation.proofs.breaks_from.Given as goal
 
 abbrev pub invariant-loop-scalar : goal.invariant-loop-scalar
 invariant-loop-scalar l =
-    breaks_by (table_of l.table) l.initial.behind (drop l.from l.text) ≡ breaks_by (table_of l.table) l.behind (drop l.i l.text)
+    breaks_by (table_of l.table.bytes.now) l.initial.behind (drop l.from l.text) ≡ breaks_by (table_of l.table.bytes.now) l.behind (drop l.i l.text)
 
 abbrev pub decreases-loop-scalar : goal.decreases-loop-scalar
 decreases-loop-scalar l = length l.text - l.i

@@ -11,8 +11,8 @@ loop-vk-init c = none_written _ _
 pub note-requires : goal.note-requires
 note-requires c =
     let i = c.loop-vk.vk-index in
-    let b = keyboard_at c.args.state.now c.args.block.now in
-    (omega (arith, noted_most b c.args.keys.now.items (take i modifier_keys) c.loop-vk.invariant, six_first i (omega arith)), c.requires.1)
+    let b = keyboard_at c.args.keyboard.state.now c.args.keyboard.layout.bytes.now in
+    omega (arith, noted_most b c.args.keys.now.items (take i modifier_keys) c.loop-vk.invariant, six_first i (omega arith))
 
 pub loop-vk-preserved : goal.loop-vk-preserved
 loop-vk-preserved c =
@@ -21,7 +21,7 @@ loop-vk-preserved c =
 
 pub returns : goal.returns
 returns c =
-    let b = keyboard_at c.args.state.now c.args.block.now in
+    let b = keyboard_at c.args.keyboard.state.now c.args.keyboard.layout.bytes.now in
     let all : c.loop-vk.keys.items ≡ c.args.keys.now.items ++ written_of b modifier_keys =
     c.loop-vk.invariant ∙ ap (λ x. c.args.keys.now.items ++ written_of b x) (six_all c.loop-vk.vk-index (omega arith) (omega arith)) in
     (all, omega (arith, noted_most b c.args.keys.now.items modifier_keys all, six_count))

@@ -6,4 +6,4 @@ use Rattle.event.proofs.focus.note_modifiers.Given as goal
 
 abbrev pub invariant-loop-vk : goal.invariant-loop-vk
 invariant-loop-vk l =
-    l.keys.items ≡ l.initial.keys.items ++ written_of (keyboard_at l.state l.block) (take l.vk-index modifier_keys)
+    l.keys.items ≡ l.initial.keys.items ++ written_of (keyboard_at l.keyboard.state.now l.keyboard.layout.bytes.now) (take l.vk-index modifier_keys)

@@ -14,13 +14,13 @@ loop-vk-init c = none_written _ _
 pub note-requires : goal.note-requires
 note-requires c =
     let vk = c.loop-vk.vk in
-    let b = keyboard_at c.args.state.now c.args.block.now in
-    (omega (arith, noted_most b c.args.keys.now.items (others_from vk 0) c.loop-vk.invariant, others-left vk (omega arith) cc), c.requires.1)
+    let b = keyboard_at c.args.keyboard.state.now c.args.keyboard.layout.bytes.now in
+    omega (arith, noted_most b c.args.keys.now.items (others_from vk 0) c.loop-vk.invariant, others-left vk (omega arith) cc)
 
 pub loop-vk-preserved : goal.loop-vk-preserved
 loop-vk-preserved c =
     let vk = c.loop-vk.vk in
-    let b = keyboard_at c.args.state.now c.args.block.now in
+    let b = keyboard_at c.args.keyboard.state.now c.args.keyboard.layout.bytes.now in
     elim c.if-is_other.branch [
       | then-is_other w ↦
           noted b c.args.keys.now.items (others_from vk 0) (vk ∷ []) c.loop-vk.invariant (ap (λ k. k.items) w.keys-is ∙ w.note.ensures.0) (one_other vk cc)
@@ -29,7 +29,7 @@ loop-vk-preserved c =
 
 pub returns : goal.returns
 returns c =
-    let b = keyboard_at c.args.state.now c.args.block.now in
+    let b = keyboard_at c.args.keyboard.state.now c.args.keyboard.layout.bytes.now in
     let end : c.loop-vk.vk ≡ KEYS = omega arith in
     let all : c.loop-vk.keys.items ≡ c.args.keys.now.items ++ written_of b (others_from KEYS 0) =
     c.loop-vk.invariant ∙ ap (λ (n : ℕ). c.args.keys.now.items ++ written_of b (others_from n 0)) end in

@@ -6,4 +6,4 @@ use Rattle.event.proofs.focus.note_others.Given as goal
 
 abbrev pub invariant-loop-vk : goal.invariant-loop-vk
 invariant-loop-vk l =
-    l.keys.items ≡ l.initial.keys.items ++ written_of (keyboard_at l.state l.block) (others_from l.vk 0)
+    l.keys.items ≡ l.initial.keys.items ++ written_of (keyboard_at l.keyboard.state.now l.keyboard.layout.bytes.now) (others_from l.vk 0)

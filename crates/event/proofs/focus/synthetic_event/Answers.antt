@@ -23,11 +23,11 @@ focus-within Released k h = zero-le
 pub returns : goal.returns
 unfolding event_in plain_in synthetic_event focus_key
 returns c =
-    let block = c.args.block.now in
+    let block = c.args.keyboard.layout.bytes.now in
     let k = c.layout_key-logical_key.result in
     let text : text_from (part_of block k) c.focus_text-text.result ≡ focus_text c.args.st (key_in block k) = c.focus_text-text.ensures (part_of block k) in
     let plain = c.plain_key-key_without_modifiers.ensures in (
-      grind (arith, common_steps, text, plain.0 c.args.state.now, caps_bits c.caps_lock_on.result),
+      grind (arith, common_steps, text, plain.0 c.args.keyboard.state.now, caps_bits c.caps_lock_on.result),
       record {
         logical_key = c.layout_key-logical_key.ensures.1;
         text = omega (arith, ap (λ (o : Option (List ℕ)). length (bytes_of o)) text, focus-within c.args.st (key_in block k) c.layout_key-logical_key.ensures.1);

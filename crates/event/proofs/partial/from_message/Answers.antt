@@ -12,7 +12,7 @@ use Rattle.event.proofs.partial.from_message.Goals as goal
 pub returns-in-Some : goal.returns-in-Some
 unfolding info_in from_message forced_key
 returns-in-Some c =
-    let board = keyboard_at c.args.state.now c.args.block.now in
+    let board = keyboard_at c.args.keyboard.state.now c.args.keyboard.layout.bytes.now in
     let scancode = c.message_scancode-scancode.result in
     let key = full c.in-Some.key [] in
     let forced : forced_key board scancode ≡ Some key = grind (arith, common_steps) in
@@ -24,4 +24,4 @@ unfolding info_in from_message forced_key layout_key
 returns c =
     let logical = c.layout_key-logical_key.ensures in
     let plain = c.plain_key-key_without_modifiers.ensures in
-    (grind (arith, common_steps, plain.0 c.args.state.now), record { logical_key = logical.1; key_without_modifiers = plain.1 })
+    (grind (arith, common_steps, plain.0 c.args.keyboard.state.now), record { logical_key = logical.1; key_without_modifiers = plain.1 })

@@ -10,5 +10,5 @@ use Rattle.event.proofs.partial.layout_key.Goals as goal
 pub returns : goal.returns
 returns c =
     let a = c.args in
-    let e : key_in a.block.now c.get_key.result ≡ get_key (maps_of a.block.now) (bits_of a.mods) a.num_lock_on a.vkey a.scancode (key_code_of a.scancode) = cc in
-    (e, layout_fits a.block.now (λ i. omega (arith, c.type_inv.block i)) c.requires _ _ _ _ _ _ (omega arith) e)
+    let e : key_in a.layout.bytes.now c.get_key.result ≡ get_key (maps_of a.layout.bytes.now) (bits_of a.mods) a.num_lock_on a.vkey a.scancode (key_code_of a.scancode) = cc in
+    (e, layout_fits a.layout.bytes.now a.layout.bytewise a.layout.whole _ _ _ _ _ _ (omega arith) e)

@@ -1,7 +1,7 @@
 -- The last character completes the press that is held then; without one, or with more to come, nothing is completed.
 -- Assumes nothing.
 use Rattle.std.specs.Prelude.{None}
-use Rattle.std.proofs.Common.{◌≡◌, ℕ, ◌<◌, refl, sym, ◌∙◌, arith, rules}
+use Rattle.std.proofs.Common.{◌≡◌, ℕ, ◌<◌, refl, sym, ◌∙◌, rules}
 use mathlib.Core.Bool.{Bool, ◌&&◌}
 use lib.ListN.{get_or}
 use Rattle.session.specs.Area.{decode}
@@ -24,17 +24,14 @@ pub put_last-requires : goal.put_last-requires
 put_last-requires c =
     let p = c.requires in
     let b : (i : ℕ) → get_or c.args.session.now i 0 < 256 = λ i. search rules in
-    let r = p.0.stands.area in
-    let both = held_and_last (decode c.args.session.now).held (more_coming c.args.peeked) (asked_as _ c.header_at-head.ensures.1 c.completes.ensures c.if-completes.true) in (
-      record { session = r.size; answers = p.0.answers; few = few case.Character _ _ _ _ _ p.0 b; ok = held_passes _ r both.0 },
-      p.0.block-ok,
-      p.1,
-    )
+    let r = p.stands.area in
+    let both = held_and_last (decode c.args.session.now).held (more_coming c.args.peeked) (asked_as _ c.header_at-head.ensures.1 c.completes.ensures c.if-completes.true) in
+    record { session = r.size; answers = p.answers; few = few case.Character _ _ _ _ p b; ok = held_passes _ r both.0 }
 
 pub complete_pending-requires : goal.complete_pending-requires
 complete_pending-requires c =
     let x = c.args.session.now in
-    let p = c.requires.0 in
+    let p = c.requires in
     let b : (i : ℕ) → get_or x i 0 < 256 = λ i. search rules in
     let r = p.stands.area in
     let stands = same_place x None _ _ (forgotten _ (own_area x b r) refl) p.stands in
@@ -43,20 +40,20 @@ complete_pending-requires c =
 pub returns-then-completes : goal.returns-then-completes
 returns-then-completes c =
     let x = c.args.session.now in
-    let p = c.requires.0 in
+    let p = c.requires in
     let b : (i : ℕ) → get_or x i 0 < 256 = λ i. search rules in
     let r = p.stands.area in
     let both = held_and_last (decode x).held (more_coming c.args.peeked) (asked_as _ c.header_at-head.ensures.1 c.completes.ensures c.if-completes.true) in
     let none = forgotten _ (own_area x b r) refl in
     let stands = same_place x None _ _ none p.stands in
     let f = held_fits_lem x r both.0 b in
-    let board = keyboard_at_ok _ c.args.state.now (λ i. omega (arith, c.type_inv.block i)) p.block-ok in
-    finished _ _ _ _ _ _ _ (char_done _ _ _ _ _ (character_waits _ _ _ _ _ p) _ (held_there x r both.0) both.1 refl) _ none.back
+    let board = keyboard_at_ok _ c.args.keyboard.state.now c.args.keyboard.layout.bytewise c.args.keyboard.layout.whole in
+    finished _ _ _ _ _ _ _ (char_done _ _ _ _ _ (character_waits _ _ _ _ p) _ (held_there x r both.0) both.1 refl) _ none.back
     (c.complete_pending.ensures (unheld x b r) _ _ (unheld_bytes x b r) stands (char_fits _ _ _ board f.1 f.0) p.answers
     (unheld_stands x b r _ _ c.put_last.ensures c.forget_held.ensures))
 
 pub returns : goal.returns
 returns c =
     finished _ _ _ _ _ _ _
-    (char_dropped _ _ _ _ _ (character_waits _ _ _ _ _ c.requires.0) (asked_as _ c.header_at-head.ensures.1 c.completes.ensures c.if-completes.false)) _ refl
+    (char_dropped _ _ _ _ _ (character_waits _ _ _ _ c.requires) (asked_as _ c.header_at-head.ensures.1 c.completes.ensures c.if-completes.false)) _ refl
     c.remove_pending.ensures

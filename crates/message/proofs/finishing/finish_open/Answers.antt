@@ -38,5 +38,5 @@ pending_at-what-requires c =
 pub returns-in-Complete : goal.returns-in-Complete
 returns-in-Complete c =
     let a = c.requires in
-    let e = entry_found _ _ _ _ _ (c.in-Some.ensures.found _ refl) a.1 a.2 case.Complete c.pending_at-what.ensures c.in-Complete.is refl in
-    nothing_left _ (λ i. search rules) a.0 _ _ _ _ (completed _ _ _ _ _ e) c.no_events-in-Complete.ensures
+    let e = entry_found _ _ _ _ (c.in-Some.ensures.found _ refl) a.1 case.Complete c.pending_at-what.ensures c.in-Complete.is refl in
+    nothing_left _ (λ i. search rules) a.0 _ _ _ _ (completed _ _ _ _ e) c.no_events-in-Complete.ensures

@@ -3,6 +3,7 @@
 use Rattle.std.specs.Prelude.{Some, None}
 use Rattle.std.proofs.Common.{◌≡◌, ℕ, ◌<◌, List, true, refl, sym, ap, ◌∙◌, arith, rules}
 use lib.ListN.{get_or}
+use Rattle.lookup.specs.Block.{block_ok}
 use Rattle.lookup.specs.declared.keyboard.KeyLParam.{KeyLParam}
 use Rattle.session.specs.Session.{press, event_fits, held_fits}
 use Rattle.session.specs.Area.{decode}
@@ -22,33 +23,33 @@ use Rattle.message.proofs.finishing.finish_press.Goals as goal
 
 -- the press that waits is in range, as it would be held
 press_in_range :
-    (x y block state : List ℕ) (t place : ℕ) → EntryAt case.Press x y block t place → ((i : ℕ) → get_or x i 0 < 256) → ((i : ℕ) → get_or block i 0 < 256) →
-    (vkey : ℕ) (l : KeyLParam) → find_wait t (decode x).entries ≡ Some (press vkey l) → held_fits (Some (held_of (keyboard_at state block) vkey l)) ≡ true
-press_in_range x y block state t place p b o vkey l w =
-    let r = press_range x y block t place p b vkey l w in
-    held_fits_lem (keyboard_at state block) vkey l (keyboard_at_ok block state o p.block-ok) r.0 r.1
+    (x y block state : List ℕ) (t place : ℕ) → EntryAt case.Press x y t place → ((i : ℕ) → get_or x i 0 < 256) → ((i : ℕ) → get_or block i 0 < 256) →
+    block_ok block ≡ true → (vkey : ℕ) (l : KeyLParam) → find_wait t (decode x).entries ≡ Some (press vkey l) → held_fits (Some (held_of (keyboard_at state block) vkey l)) ≡ true
+press_in_range x y block state t place p b o k vkey l w =
+    let r = press_range x y t place p b vkey l w in
+    held_fits_lem (keyboard_at state block) vkey l (keyboard_at_ok block state o k) r.0 r.1
 
 pub overflow_mul-at : goal.overflow_mul-at
-overflow_mul-at c = omega (arith, few case.Press _ _ _ _ _ c.requires (λ i. search rules))
+overflow_mul-at c = omega (arith, few case.Press _ _ _ _ c.requires (λ i. search rules))
 
 pub overflow_add-at : goal.overflow_add-at
-overflow_add-at c = omega (arith, few case.Press _ _ _ _ _ c.requires (λ i. search rules))
+overflow_add-at c = omega (arith, few case.Press _ _ _ _ c.requires (λ i. search rules))
 
 pub overflow_add-at-2 : goal.overflow_add-at-2
-overflow_add-at-2 c = omega (arith, few case.Press _ _ _ _ _ c.requires (λ i. search rules))
+overflow_add-at-2 c = omega (arith, few case.Press _ _ _ _ c.requires (λ i. search rules))
 
 pub slice_bounds-pressed_at-count : goal.slice_bounds-pressed_at-count
 slice_bounds-pressed_at-count c =
-    omega (arith, few case.Press _ _ _ _ _ c.requires (λ i. search rules), c.requires.stands.area.size)
+    omega (arith, few case.Press _ _ _ _ c.requires (λ i. search rules), c.requires.stands.area.size)
 
 pub slice_bounds-pressed_at-start : goal.slice_bounds-pressed_at-start
 slice_bounds-pressed_at-start c =
-    omega (arith, few case.Press _ _ _ _ _ c.requires (λ i. search rules), c.requires.stands.area.size)
+    omega (arith, few case.Press _ _ _ _ c.requires (λ i. search rules), c.requires.stands.area.size)
 
 pub pressed_at-p-requires : goal.pressed_at-p-requires
 pressed_at-p-requires c =
     let b : (i : ℕ) → get_or c.args.session.now i 0 < 256 = λ i. search rules in
-    press-reads _ _ _ _ _ c.requires b (omega (arith, few case.Press _ _ _ _ _ c.requires b, c.requires.stands.area.size)) refl
+    press-reads _ _ _ _ c.requires b (omega (arith, few case.Press _ _ _ _ c.requires b, c.requires.stands.area.size)) refl
 
 pub set_held-requires : goal.set_held-requires
 set_held-requires c =
@@ -56,9 +57,9 @@ set_held-requires c =
     let b : (i : ℕ) → get_or a.session.now i 0 < 256 = λ i. search rules in
     let p = c.requires in
     let r = c.pressed_at-p.result in
-    let made = made_held a.block.now a.state.now r.vkey r.lparam c.from_message-n.result c.from_message-n.ensures.0 (c.press_mark-mark.ensures _ _ (key_of _ _)) in
-    let waits = press_waits _ _ _ _ _ p b _ _ c.pressed_at-p.ensures refl in
-    (p.stands.area, c.from_message-n.ensures.1, rw made (press_in_range _ _ _ a.state.now _ _ p b (λ i. omega (arith, c.type_inv.block i)) _ _ waits))
+    let made = made_held a.keyboard.layout.bytes.now a.keyboard.state.now r.vkey r.lparam c.from_message-n.result c.from_message-n.ensures.0 (c.press_mark-mark.ensures _ _ (key_of _ _)) in
+    let waits = press_waits _ _ _ _ p b _ _ c.pressed_at-p.ensures refl in
+    (p.stands.area, c.from_message-n.ensures.1, rw made (press_in_range _ _ _ a.keyboard.state.now _ _ p b a.keyboard.layout.bytewise a.keyboard.layout.whole _ _ waits))
 
 pub remove_pending-requires : goal.remove_pending-requires
 remove_pending-requires c =
@@ -66,9 +67,9 @@ remove_pending-requires c =
     let b : (i : ℕ) → get_or a.session.now i 0 < 256 = λ i. search rules in
     let p = c.requires in
     let r = c.pressed_at-p.result in
-    let made = made_held a.block.now a.state.now r.vkey r.lparam c.from_message-n.result c.from_message-n.ensures.0 (c.press_mark-mark.ensures _ _ (key_of _ _)) in
-    let waits = press_waits _ _ _ _ _ p b _ _ c.pressed_at-p.ensures refl in
-    let fits = press_in_range _ _ _ a.state.now _ _ p b (λ i. omega (arith, c.type_inv.block i)) _ _ waits in
+    let made = made_held a.keyboard.layout.bytes.now a.keyboard.state.now r.vkey r.lparam c.from_message-n.result c.from_message-n.ensures.0 (c.press_mark-mark.ensures _ _ (key_of _ _)) in
+    let waits = press_waits _ _ _ _ p b _ _ c.pressed_at-p.ensures refl in
+    let fits = press_in_range _ _ _ a.keyboard.state.now _ _ p b a.keyboard.layout.bytewise a.keyboard.layout.whole _ _ waits in
     (same_place _ _ _ _ (held-area _ _ (own_area _ b p.stands.area) (rw made (new_within _ _ _)) (rw made fits) c.set_held.ensures) p.stands, p.answers)
 
 pub returns-then-holds : goal.returns-then-holds
@@ -77,9 +78,9 @@ returns-then-holds c =
     let b : (i : ℕ) → get_or a.session.now i 0 < 256 = λ i. search rules in
     let p = c.requires in
     let r = c.pressed_at-p.result in
-    let made = made_held a.block.now a.state.now r.vkey r.lparam c.from_message-n.result c.from_message-n.ensures.0 (c.press_mark-mark.ensures _ _ (key_of _ _)) in
-    let waits = press_waits _ _ _ _ _ p b _ _ c.pressed_at-p.ensures refl in
-    let fits = press_in_range _ _ _ a.state.now _ _ p b (λ i. omega (arith, c.type_inv.block i)) _ _ waits in
+    let made = made_held a.keyboard.layout.bytes.now a.keyboard.state.now r.vkey r.lparam c.from_message-n.result c.from_message-n.ensures.0 (c.press_mark-mark.ensures _ _ (key_of _ _)) in
+    let waits = press_waits _ _ _ _ p b _ _ c.pressed_at-p.ensures refl in
+    let fits = press_in_range _ _ _ a.keyboard.state.now _ _ p b a.keyboard.layout.bytewise a.keyboard.layout.whole _ _ waits in
     let area = held-area _ _ (own_area _ b p.stands.area) (rw made (new_within _ _ _)) (rw made fits) c.set_held.ensures in
     λ v. finished _ _ v _ _ _ _ (press-held _ _ v _ _ _ _ waits _ made (sym c.holds.ensures ∙ c.if-holds.true)) _ area.back c.remove_pending.ensures
 
@@ -95,8 +96,8 @@ returns-then-is_fake c =
     let b : (i : ℕ) → get_or a.session.now i 0 < 256 = λ i. search rules in
     let p = c.requires in
     let r = c.pressed_at-p.result in
-    let made = made_held a.block.now a.state.now r.vkey r.lparam c.from_message-n.result c.from_message-n.ensures.0 (c.press_mark-mark.ensures _ _ (key_of _ _)) in
-    let waits = press_waits _ _ _ _ _ p b _ _ c.pressed_at-p.ensures refl in
+    let made = made_held a.keyboard.layout.bytes.now a.keyboard.state.now r.vkey r.lparam c.from_message-n.result c.from_message-n.ensures.0 (c.press_mark-mark.ensures _ _ (key_of _ _)) in
+    let waits = press_waits _ _ _ _ p b _ _ c.pressed_at-p.ensures refl in
     let area = forgotten _ (own_area _ b p.stands.area) (forgot_plainly b p.stands.area c.forget_held.ensures) in
     let passes = sym c.holds.ensures ∙ c.if-holds.false in
     let fake = sym (c.is_fake.ensures _ _ (key_of _ _)) ∙ c.if-is_fake.true in
@@ -107,7 +108,7 @@ put_event-requires c =
     let b : (i : ℕ) → get_or c.args.session.now i 0 < 256 = λ i. search rules in
     let p = c.requires in
     let area = forgotten _ (own_area _ b p.stands.area) (forgot_plainly b p.stands.area c.forget_held.ensures) in
-    (area.area.size, p.answers, few case.Press _ _ _ _ _ p b, (c.press_event-e.ensures _ c.from_message-n.ensures.1 0).1)
+    (area.area.size, p.answers, few case.Press _ _ _ _ p b, (c.press_event-e.ensures _ c.from_message-n.ensures.1 0).1)
 
 pub complete_pending-requires : goal.complete_pending-requires
 complete_pending-requires c =
@@ -122,9 +123,9 @@ returns c =
     let b : (i : ℕ) → get_or a.session.now i 0 < 256 = λ i. search rules in
     let p = c.requires in
     let r = c.pressed_at-p.result in
-    let made = made_held a.block.now a.state.now r.vkey r.lparam c.from_message-n.result c.from_message-n.ensures.0 (c.press_mark-mark.ensures _ _ (key_of _ _)) in
-    let waits = press_waits _ _ _ _ _ p b _ _ c.pressed_at-p.ensures refl in
-    let fits = press_in_range _ _ _ a.state.now _ _ p b (λ i. omega (arith, c.type_inv.block i)) _ _ waits in
+    let made = made_held a.keyboard.layout.bytes.now a.keyboard.state.now r.vkey r.lparam c.from_message-n.result c.from_message-n.ensures.0 (c.press_mark-mark.ensures _ _ (key_of _ _)) in
+    let waits = press_waits _ _ _ _ p b _ _ c.pressed_at-p.ensures refl in
+    let fits = press_in_range _ _ _ a.keyboard.state.now _ _ p b a.keyboard.layout.bytewise a.keyboard.layout.whole _ _ waits in
     let area = forgotten _ (own_area _ b p.stands.area) (forgot_plainly b p.stands.area c.forget_held.ensures) in
     let passes = sym c.holds.ensures ∙ c.if-holds.false in
     let real = sym (c.is_fake.ensures _ _ (key_of _ _)) ∙ c.if-is_fake.false in

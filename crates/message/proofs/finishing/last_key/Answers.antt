@@ -10,20 +10,20 @@ pub last_key-requires : goal.last_key-requires
 last_key-requires c =
     let a = c.args in
     let p = c.requires in
-    field-reads a.place a.session.now a.answers.now _ p.0 p.1 p.2 p.3 p.4 (field-first a.place a.session.now a.answers.now c.if-place-eq0.true refl)
+    field-reads a.place a.session.now a.answers.now p.0 p.1 p.2 p.3 (field-first a.place a.session.now a.answers.now c.if-place-eq0.true refl)
 
 pub returns-then-place-eq0 : goal.returns-then-place-eq0
 returns-then-place-eq0 c =
     let a = c.args in
-    told-key (table_of a.table.now) _ c.last_key.ensures (mark_in a.session.now) (field-first a.place a.session.now a.answers.now c.if-place-eq0.true refl)
+    told-key (table_of a.table.bytes.now) _ c.last_key.ensures (mark_in a.session.now) (field-first a.place a.session.now a.answers.now c.if-place-eq0.true refl)
 
 pub last_key-requires-2 : goal.last_key-requires-2
 last_key-requires-2 c =
     let a = c.args in
     let p = c.requires in
-    field-reads a.place a.session.now a.answers.now _ p.0 p.1 p.2 p.3 p.4 (field-later a.place a.session.now a.answers.now c.if-place-eq0.false refl)
+    field-reads a.place a.session.now a.answers.now p.0 p.1 p.2 p.3 (field-later a.place a.session.now a.answers.now c.if-place-eq0.false refl)
 
 pub returns : goal.returns
 returns c =
     let a = c.args in
-    told-key (table_of a.table.now) _ c.last_key-2.ensures (mark_in a.session.now) (field-later a.place a.session.now a.answers.now c.if-place-eq0.false refl)
+    told-key (table_of a.table.bytes.now) _ c.last_key-2.ensures (mark_in a.session.now) (field-later a.place a.session.now a.answers.now c.if-place-eq0.false refl)

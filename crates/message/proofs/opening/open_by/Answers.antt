@@ -10,25 +10,25 @@ use Rattle.message.proofs.opening.open_by.Goals as goal
 
 pub open_press-requires : goal.open_press-requires
 open_press-requires c =
-    let p = c.requires in (press_room _ p.0 _ _ _ p.3 c.in-KeyDown.is, p.1)
+    let p = c.requires in (press_room _ p.0 _ _ _ p.2 c.in-KeyDown.is, p.1)
 
 pub open_release-requires : goal.open_release-requires
 open_release-requires c =
-    let p = c.requires in (release_room _ p.0 _ _ _ p.3 c.in-KeyUp.is, p.1, p.2)
+    let p = c.requires in (release_room _ p.0 _ _ _ p.2 c.in-KeyUp.is, p.1)
 
 pub open_char-requires : goal.open_char-requires
 open_char-requires c =
-    let p = c.requires in (may_char _ p.0 _ _ _ p.3 c.in-Char.is, p.1)
+    let p = c.requires in (may_char _ p.0 _ _ _ p.2 c.in-Char.is, p.1)
 
 pub answer_dead_char-requires : goal.answer_dead_char-requires
 answer_dead_char-requires c =
     let p = c.requires in
     let e = c.in-DeadChar.is in
-    (dead-char_room _ p.0 _ _ _ p.3 e, dead-char-held _ p.0 _ _ _ p.3 e, p.1)
+    (dead-char_room _ p.0 _ _ _ p.2 e, dead-char-held _ p.0 _ _ _ p.2 e, p.1)
 
 pub answer_focus-requires : goal.answer_focus-requires
 answer_focus-requires c =
-    let p = c.requires in (p.0, p.2, p.1, focus_fits _ p.0 _ _ _ p.3 _ c.in-Focus.is)
+    let p = c.requires in (p.0, p.1, focus_fits _ p.0 _ _ _ p.2 _ c.in-Focus.is)
 
 pub returns-in-KeyDown : goal.returns-in-KeyDown
 unfolding as_sort message_effect

@@ -1,13 +1,14 @@
 -- The release that waits is the message's, in range.
 -- Assumes nothing.
-use Rattle.std.proofs.Common.{refl, arith}
+use Rattle.std.proofs.Common.{refl}
 use Rattle.message.proofs.opening.MessageOpened.{opened, release_fits}
 use Rattle.message.proofs.opening.open_release.Goals as goal
 
 pub add_release-token-requires : goal.add_release-token-requires
 add_release-token-requires c =
     let e = c.from_message-info.ensures in
-    (c.requires.0, e.1, release_fits c.args.block.now _ (λ i. omega (arith, c.type_inv.block i)) c.requires.2 c.args.message.lparam _ _ e.0 c.destructure_key_lparam-l.ensures)
+    let k = c.args.keyboard in
+    (c.requires.0, e.1, release_fits k.layout.bytes.now _ k.layout.bytewise k.layout.whole c.args.message.lparam _ _ e.0 c.destructure_key_lparam-l.ensures)
 
 pub returns : goal.returns
 returns c =
