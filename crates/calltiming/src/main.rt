@@ -154,6 +154,8 @@ fn show_count(rt: &impl Print, count: u64, session: &[u8; AREA_SIZE]) -> io::Res
     println!(rt; "{count} counted, {} entries", u16_at(session, COUNT_AT))
 }
 
+// Not inlined, nor is `run_calls`: one frame would have room for the areas of both.
+#[inline(never)]
 fn run_floors(rt: &impl Print, block: &mut [u8], table: &mut [u8], rounds: u64) -> io::Result<()> {
     let mut session = [0; AREA_SIZE];
     let mut answers = [0; AREA_SIZE];
@@ -163,6 +165,7 @@ fn run_floors(rt: &impl Print, block: &mut [u8], table: &mut [u8], rounds: u64) 
     show_count(rt, count, &session)
 }
 
+#[inline(never)]
 fn run_calls<F: FnOnce(&mut Host<'_>) -> u64>(
     rt: &impl Print,
     block: &[u8],

@@ -1,2 +1,3 @@
 pub mod PressKey
 pub mod Written
+pub mod FocusKeys

@@ -1,6 +1,5 @@
 // tao's synthesize_kbd_state: which keys a focus change writes, in their order, and their events (create_synthetic).
 ghost use Rattle.std.specs.Prelude.{true, List, [], ◌∷◌, ◌++◌, ◌≡◌, ℕ, ◌+◌, ◌≤◌, ◌<◌, length};
-ghost use Rattle.arrayvec.specs.ArrayVec.{array_vec_len};
 ghost use Rattle.keys.specs.Text.{full, text_from};
 ghost use Rattle.lookup.specs.Block.{maps_of};
 ghost use Rattle.lookup.specs.Layout.{scan_code_for};
@@ -10,15 +9,74 @@ ghost use Rattle.session.specs.Limits.{KEYS};
 ghost use Rattle.event.specs.Written.{keyboard_at, written_of};
 
 use crate::keyboard::Keyboard;
-use arrayvec::ArrayVec;
 use keys::{Key, KeyText};
 use lookup::keyboard_layout::WindowsModifiers;
 use session::{ElementState, KEY_STATE_SIZE, KeyEvent};
+use std::marker::Model;
 
 // ---- which keys, in which order
 
-// The keys that are written, by their virtual keys.
-pub type FocusKeys = ArrayVec<u8, KEY_STATE_SIZE>;
+// The keys that are written, by their virtual keys: the first `len`. The kit's ArrayVec is not `Copy`.
+#[derive(Clone, Copy)]
+pub struct FocusKeys {
+    keys: [u8; KEY_STATE_SIZE],
+    len: usize,
+}
+
+impl Model for FocusKeys {
+    ghost use Rattle.std.specs.Prelude.{◌≡◌, ◌≤◌, ◌++◌, length, take, drop};
+    ghost use Rattle.std.proofs.Common.{arith, take-append-drop, length-take-le};
+    ghost use Rattle.event.specs.FocusKeys.{FocusKeys as Items};
+    ghost use Rattle.session.specs.Limits.{KEYS};
+
+    ghost Value = { Items };
+
+    ghost view = { λ s. record { items = take s.len s.keys; spare = drop s.len s.keys } };
+
+    ghost invariant = { λ s. (s.len ≤ KEYS) × (length s.keys ≡ KEYS) };
+
+    ghost inverse = { λ s. record { keys = s.items ++ s.spare; len = length s.items } };
+
+    ghost inverse_ok = { λ s h i. record {
+      keys = take-append-drop s.len s.keys i;
+      len = length-take-le s.len s.keys (omega (arith, h.0, h.1)) i;
+    } };
+}
+
+impl FocusKeys {
+    // No key.
+    fn new() -> Self
+        ensures { result.items ≡ [] }
+    {
+        Self {
+            keys: [0; KEY_STATE_SIZE],
+            len: 0,
+        }
+    }
+
+    // One key more.
+    fn push(&mut self, vk: u8)
+        requires { length self.old.items < KEYS }
+        ensures { self.new.items ≡ self.old.items ++ vk ∷ [] }
+    {
+        self.keys[self.len] = vk;
+        self.len += 1;
+    }
+
+    // How many keys.
+    pub fn len(&self) -> usize
+        ensures { result ≡ length self.now.items }
+    {
+        self.as_slice().len()
+    }
+
+    // The keys, in their order.
+    pub fn as_slice(&self) -> &[u8]
+        ensures value { result.now ≡ self.now.items }
+    {
+        &self.keys[..self.len]
+    }
+}
 
 const VK_CAPITAL: u8 = 0x14;
 
@@ -45,8 +103,8 @@ fn is_written(keyboard: Keyboard<'_>, vk: u8) -> bool
 // Notes a key where it is written.
 #[tactic(auto, unfolding(crate::specs::Written::written_of))]
 fn note(keys: &mut FocusKeys, keyboard: Keyboard<'_>, vk: u8)
-    requires { array_vec_len keys.old < KEYS }
-    ensures { (keys.new.items ≡ keys.old.items ++ written_of (keyboard_at keyboard.entry.state.now keyboard.entry.layout.bytes.now) (vk ∷ [])) × (array_vec_len keys.new ≤ array_vec_len keys.old + 1) }
+    requires { length keys.old.items < KEYS }
+    ensures { (keys.new.items ≡ keys.old.items ++ written_of (keyboard_at keyboard.entry.state.now keyboard.entry.layout.bytes.now) (vk ∷ [])) × (length keys.new.items ≤ length keys.old.items + 1) }
 {
     if is_written(keyboard, vk) {
         keys.push(vk);
@@ -55,8 +113,8 @@ fn note(keys: &mut FocusKeys, keyboard: Keyboard<'_>, vk: u8)
 
 // Notes the six modifier keys that are written, in the table's order.
 fn note_modifiers(keys: &mut FocusKeys, keyboard: Keyboard<'_>)
-    requires { array_vec_len keys.old + 6 ≤ KEYS }
-    ensures { (keys.new.items ≡ keys.old.items ++ written_of (keyboard_at keyboard.entry.state.now keyboard.entry.layout.bytes.now) modifier_keys) × (array_vec_len keys.new ≤ array_vec_len keys.old + 6) }
+    requires { length keys.old.items + 6 ≤ KEYS }
+    ensures { (keys.new.items ≡ keys.old.items ++ written_of (keyboard_at keyboard.entry.state.now keyboard.entry.layout.bytes.now) modifier_keys) × (length keys.new.items ≤ length keys.old.items + 6) }
 {
     for vk in MODIFIER_KEYS {
         note(keys, keyboard, vk);
@@ -65,8 +123,8 @@ fn note_modifiers(keys: &mut FocusKeys, keyboard: Keyboard<'_>)
 
 // Notes the other keys that are written, ascending.
 fn note_others(keys: &mut FocusKeys, keyboard: Keyboard<'_>)
-    requires { array_vec_len keys.old ≤ 7 }
-    ensures { (keys.new.items ≡ keys.old.items ++ written_of (keyboard_at keyboard.entry.state.now keyboard.entry.layout.bytes.now) (others_from KEYS 0)) × (array_vec_len keys.new ≤ array_vec_len keys.old + 246) }
+    requires { length keys.old.items ≤ 7 }
+    ensures { (keys.new.items ≡ keys.old.items ++ written_of (keyboard_at keyboard.entry.state.now keyboard.entry.layout.bytes.now) (others_from KEYS 0)) × (length keys.new.items ≤ length keys.old.items + 246) }
 {
     for vk in 0..KEY_STATE_SIZE {
         if is_other(vk as u8) {
@@ -78,7 +136,7 @@ fn note_others(keys: &mut FocusKeys, keyboard: Keyboard<'_>)
 // SCOPE 3.14, the keys that a focus change writes: at gain Caps Lock, the others, the six; at loss Caps Lock, the six, the others.
 #[tactic(auto, using(crate::proofs::focus::Keys::gain_keys, crate::proofs::focus::Keys::loss_keys))]
 pub fn focus_keys(keyboard: Keyboard<'_>, st: ElementState) -> FocusKeys
-    ensures { (result.items ≡ written_of (keyboard_at keyboard.entry.state.now keyboard.entry.layout.bytes.now) (focus_keys st)) × (array_vec_len result ≤ 253) }
+    ensures { (result.items ≡ written_of (keyboard_at keyboard.entry.state.now keyboard.entry.layout.bytes.now) (focus_keys st)) × (length result.items ≤ 253) }
 {
     let mut keys = FocusKeys::new();
     note(&mut keys, keyboard, VK_CAPITAL);

@@ -4,7 +4,7 @@ use Rattle.std.specs.Prelude.{Option, Some, None, Result, Ok, Err, ⊤}
 use mathlib.Core.Path.{◌≡◌, refl, sym, ap, subst, ◌∙◌}
 use mathlib.Core.Bool.{Bool, true, false}
 use mathlib.Core.List.{List, ◌++◌}
-use Prim.Native.Nat.{ℕ, ◌≤◌}
+use Prim.Native.Nat.{ℕ, ◌≤◌, ◌<◌}
 use native.Mathlib.Nat.{zero-add}
 use native.Mathlib.Omega.{arith}
 use lib.Dec.{eqb}
@@ -12,10 +12,11 @@ use lib.ListN.{length, take, drop}
 use lib.IntN.{ℤ, pos}
 use mir.Syntax.{w64}
 use mir.Val.{of_z}
-use borrow.Author.Tests.{le-ltb}
+use borrow.Author.Tests.{ne_eqb, lt-ltb, le-ltb}
 use Rattle.area.specs.Pick.{pick}
 use Rattle.area.specs.Look.{assoc}
 use Rattle.area.proofs.Splice.{splice_eq}
+use Rattle.session.specs.Event.{Event}
 use Rattle.session.specs.Given.{Inputs, brought, WM_SYSKEYDOWN}
 use Rattle.session.specs.declared.Message.{Message}
 use Rattle.session.specs.Limits.{TEXT_MOST}
@@ -29,8 +30,8 @@ use Rattle.session.specs.declared.Refusal.{Refusal}
 use Rattle.session.specs.declared.ProcResult.{ProcResult}
 use Rattle.session.specs.declared.ProcResult.TheVariants.{DefWindowProc, Value}
 use Rattle.message.specs.Calls.{left}
-use Rattle.export.specs.Numbers.{refusal_of, refused_number, token_number, changed, change_of}
-use Rattle.export.specs.Events.{text_left}
+use Rattle.export.specs.Numbers.{NONE, refusal_of, refused_number, token_number, changed, change_of}
+use Rattle.export.specs.Events.{FIELDS, fields_left, text_left}
 use Rattle.export.specs.Interface.{OpenSays, FinishSays}
 
 -- ---- the message result
@@ -111,6 +112,18 @@ pub finish_says :
     FinishSays n s t (finish_of x y was i token p)
 finish_says x y i token p a {s} {t} e en was =
     (en ∙ finish_refused a ∙ ap (λ (l : Left). refusal_of l.said) (e was), ap (λ (l : Left). l.session) (e was), ap (λ (l : Left). l.answers) (e was))
+
+-- ---- no room for what is asked
+
+pub no_fields : (f : List ℕ) → (length f ≡ FIELDS → ⊥) → (o : Option Event) → ◌≡◌ {A = ℕ × List ℕ} (1, f) (fields_left o f)
+unfolding fields_left
+no_fields f h None = refl
+no_fields f h (Some e) = rw (ne_eqb (length f) FIELDS h) refl
+
+pub no_room : (t : List ℕ) → length t < TEXT_MOST → (o : Option (List ℕ)) → ◌≡◌ {A = ℕ × List ℕ} (NONE, t) (text_left o t)
+unfolding text_left
+no_room t h None = refl
+no_room t h (Some b) = rw (lt-ltb (length t) TEXT_MOST h) refl
 
 -- ---- a text that is there, copied to the front of one with enough room
 

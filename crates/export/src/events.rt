@@ -9,7 +9,7 @@ ghost use Rattle.export.specs.Events.{fields_of, is_answer, is_event, place, eve
 use session::{ANSWER_EVENT_SIZE, ANSWER_EVENTS_AT, AREA_SIZE, ENTRIES_MOST};
 
 // How many numbers an event is, as specs/Events names it.
-const FIELDS: usize = 17;
+pub(crate) const FIELDS: usize = 17;
 
 // ---- the area
 

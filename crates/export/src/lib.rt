@@ -15,6 +15,7 @@ ghost use Rattle.message.specs.Calls.{inputs, message};
 ghost use Rattle.export.specs.Events.{event_at, fields_left, text_at, text_left};
 ghost use Rattle.export.specs.Interface.{INTERFACE as interface_number, OpenSays, FinishSays, peeked_as, count_of};
 
+use crate::events::FIELDS;
 use crate::numbers::NONE;
 use session::{Message, PendingMessageToken, ProcResult, TEXT_MOST};
 
@@ -122,31 +123,37 @@ pub fn mahjonglarch_event_count(answers: &[u8]) -> u32
 
 // Event i as 17 numbers: 0. Where there is no such event, its bytes are not an event's, or `fields` has another length than 17: 1, and the
 // fields stay as they are.
-#[tactic(auto, unfolding(crate::specs::Events::fields_left))]
+#[tactic(auto, using(crate::proofs::Interface::no_fields), unfolding(crate::specs::Events::fields_left))]
 pub fn mahjonglarch_event(answers: &[u8], i: u32, fields: &mut [u32]) -> u32
     ensures { ◌≡◌ {A = ℕ × List ℕ} (result, fields.new) (fields_left (event_at answers.now i) fields.old) }
 {
+    if fields.len() != FIELDS {
+        return 1; // another number of them
+    }
     match crate::events::numbers_of(answers, i) {
-        Some(numbers) if fields.len() == numbers.len() => {
+        Some(numbers) => {
             fields.copy_from_slice(&numbers);
             0
         }
-        _ => 1, // no such event
+        None => 1, // no such event
     }
 }
 
 // A text of event i, copied to the front of `text`: its length, 0 where there is none. 0 is the logical key's character, 1 the text, 2 the
 // text with all modifiers, 3 the character of the key without modifiers. Where there is no such event or text, its bytes are not an event's,
 // or `text` has less than 48 bytes: 4,294,967,295, and the bytes stay as they are.
-#[tactic(auto, unfolding(crate::specs::Events::text_left))]
+#[tactic(auto, using(crate::proofs::Interface::no_room), unfolding(crate::specs::Events::text_left))]
 pub fn mahjonglarch_event_text(answers: &[u8], i: u32, which: u32, text: &mut [u8]) -> u32
     ensures { ◌≡◌ {A = ℕ × List ℕ} (result, text.new) (text_left (text_at (event_at answers.now i) which) text.old) }
 {
+    if text.len() < TEXT_MOST {
+        return NONE; // less room than a text may need
+    }
     match crate::events::text_of(answers, i, which) {
-        Some(bytes) if TEXT_MOST <= text.len() => {
+        Some(bytes) => {
             text[..bytes.len()].copy_from_slice(bytes);
             bytes.len() as u32
         }
-        _ => NONE,
+        None => NONE,
     }
 }

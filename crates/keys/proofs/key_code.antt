@@ -1,3 +1,4 @@
 pub mod EachCode
 pub mod Codes
+pub mod Tags
 pub mod CodeKeys

@@ -53,7 +53,7 @@ past : (l : List ℕ) (i : ℕ) → length l ≤ i → utf8_step (drop i l) ≡ 
 past l i h = sym (past_step l i utf8_of utf8_step knows8 h)
 
 -- behind the last byte nothing breaks
-breaks_past : (t : Table) (l : List ℕ) (i : ℕ) → length l ≤ i → (s : Behind) → false ≡ breaks_by t s (drop i l)
+pub breaks_past : (t : Table) (l : List ℕ) (i : ℕ) → length l ≤ i → (s : Behind) → false ≡ breaks_by t s (drop i l)
 breaks_past t l i h s = breaks_bad t (drop i l) (past l i h) s
 
 -- one scalar value alone

@@ -12,6 +12,7 @@
 // Numbers are hexadecimal. The break table of all calls is unicode.breaks, Unicode 15.0's.
 #![tactic(auto)]
 
+use arrayvec::ArrayVec;
 use export::numbers::refusal_number;
 use lines::Numbers;
 use session::{KEY_TEXT_MOST, Message, PendingMessageToken, ProcResult, Refusal, TEXT_MOST};
@@ -191,7 +192,7 @@ fn show_message(rt: &impl Print, message: Message) -> io::Result<()> {
 
 // ---- the station
 
-// How many bytes a card has room for; one that has none is left out.
+// How many bytes a card has room for; one that has none is left out. Behind the files nothing is allocated, so no shift stops halfway for memory.
 const CARD_MOST: usize = 255;
 
 #[derive(Drop)]
@@ -202,7 +203,7 @@ struct Station<'a, R: Runtime> {
     us_with_alt_graph: &'a [u8],
     accent: &'a [u8],
     host: Host<'a>,
-    card: Vec<u8, R::A>,
+    card: ArrayVec<u8, CARD_MOST>,
 }
 
 impl<'a, R: Runtime> Station<'a, R> {
@@ -273,9 +274,9 @@ impl<'a, R: Runtime> Station<'a, R> {
             show_event(self.rt, self.names, &event)?;
             // A press that the focus brought was typed before.
             if !event.released && !event.synthetic {
-                let room = CARD_MOST.saturating_sub(self.card.len());
-                self.card
-                    .extend_from_slice(&event.text[..event.text.len().min(room)])?;
+                for b in event.text {
+                    let _ = self.card.try_push(*b);
+                }
             }
         }
         Ok(())
@@ -284,7 +285,7 @@ impl<'a, R: Runtime> Station<'a, R> {
     // Shows the card, and starts the next one.
     fn show_card(&mut self) -> io::Result<()> {
         print!(self.rt; "card ")?;
-        show_text(self.rt, &self.card)?;
+        show_text(self.rt, self.card.as_slice())?;
         println!(self.rt)?;
         self.card.clear();
         Ok(())
@@ -309,7 +310,11 @@ fn main(rt: HostRuntime) -> io::Result<()> {
         return Ok(());
     };
     let input = read_input(&rt, FILE_MOST)?;
-    let mut us_with_alt_graph = us.clone()?;
+    let mut room = [0; FILE_MOST as usize];
+    let Some(us_with_alt_graph) = room.get_mut(..us.len()) else {
+        return Ok(()); // a file of more bytes, which read_file does not read
+    };
+    us_with_alt_graph.copy_from_slice(&us);
     if let Some(flag) = us_with_alt_graph.first_mut() {
         *flag = 1;
     }
@@ -317,10 +322,10 @@ fn main(rt: HostRuntime) -> io::Result<()> {
         rt: &rt,
         names: &names,
         us: &us,
-        us_with_alt_graph: &us_with_alt_graph,
+        us_with_alt_graph,
         accent: &accent,
         host: Host::new(&us, &table),
-        card: Vec::new(rt.alloc()),
+        card: ArrayVec::new(),
     };
     for line in input.split(|b| *b == b'\n') {
         if let Some(step) = step_of(line) {

@@ -6,11 +6,11 @@ use Prim.Native.Nat.{ℕ, zero, suc, ◌+◌, ◌-◌, ◌*◌, ◌/◌, ◌%◌
 use native.Mathlib.Numerals.{towards_suc}
 use native.Mathlib.Omega.{arith}
 use lib.ListN.{length, take, drop, get_or, set, replicate, length-drop, length-replicate, take-append-drop}
-use lib.Seq.{take-length, length-take-le}
+use lib.Seq.{take-length, length-take-le, get_or-drop, drop-drop}
 use Rattle.area.specs.Bytes.{num}
 use Rattle.area.specs.Splice.{splice, padded}
 use Rattle.area.proofs.Bytes.{num-drop}
-use Rattle.area.proofs.Splice.{merge, over}
+use Rattle.area.proofs.Splice.{merge, over, splice-before}
 use Rattle.std.specs.Prelude.{None, Some}
 use Rattle.std.specs.Bool.{then_some}
 use Rattle.text.specs.Unicode.{within, utf16_of, utf8_of, unit_step, utf16_step, text_of}
@@ -62,6 +62,18 @@ nth (suc n) zero l h = refl
 nth (suc n) (suc i) l h =
     let e : 2 + 2 * i ≡ 2 * suc i = omega arith in
     nth n i (drop 2 l) (omega arith) ∙ num-drop 2 (2 * i) 2 l ∙ ap (λ (k : ℕ). num 2 k l) e
+
+-- units before a write are as they were
+pub units-before :
+    (n from at : ℕ) (bs x : List ℕ) → from + 2 * n ≤ at → units_at n (drop from (splice at bs x)) ≡ units_at n (drop from x)
+unfolding units_at num
+units-before zero from at bs x h = refl
+units-before (suc n) from at bs x h =
+    let low : get_or (drop from (splice at bs x)) 0 0 ≡ get_or (drop from x) 0 0 =
+    get_or-drop from (splice at bs x) 0 0 ∙ splice-before at bs x (from + 0) (omega arith) ∙ sym (get_or-drop from x 0 0) in
+    let high : get_or (drop from (splice at bs x)) 1 0 ≡ get_or (drop from x) 1 0 =
+    get_or-drop from (splice at bs x) 1 0 ∙ splice-before at bs x (from + 1) (omega arith) ∙ sym (get_or-drop from x 1 0) in
+    rw (low, high, drop-drop 2 from (splice at bs x), drop-drop 2 from x, units-before n (from + 2) at bs x (omega arith))
 
 -- ---- the step at unit i
 module _ (n from i : ℕ) (x : List ℕ) where

@@ -10,15 +10,18 @@ use crate::Lead;
 fn lead_of(b: u32) -> Lead
     ensures { result ≡ lead_of b }
 {
+    // Guards, not ranges: of ranges the compiler makes a table of jumps, which takes longer than these tests.
     match b {
-        0x00..=0x7F => Lead::One,
-        0xC2..=0xDF => Lead::Two(0x80, 0xBF),
-        0xE0 => Lead::Three(0xA0, 0xBF),
-        0xE1..=0xEC | 0xEE..=0xEF => Lead::Three(0x80, 0xBF),
-        0xED => Lead::Three(0x80, 0x9F),
-        0xF0 => Lead::Four(0x90, 0xBF),
-        0xF1..=0xF3 => Lead::Four(0x80, 0xBF),
-        0xF4 => Lead::Four(0x80, 0x8F),
+        _ if b < 0x80 => Lead::One,
+        _ if b < 0xC2 => Lead::Ill,
+        _ if b < 0xE0 => Lead::Two(0x80, 0xBF),
+        _ if b < 0xE1 => Lead::Three(0xA0, 0xBF),
+        _ if b < 0xED => Lead::Three(0x80, 0xBF),
+        _ if b < 0xEE => Lead::Three(0x80, 0x9F),
+        _ if b < 0xF0 => Lead::Three(0x80, 0xBF),
+        _ if b < 0xF1 => Lead::Four(0x90, 0xBF),
+        _ if b < 0xF4 => Lead::Four(0x80, 0xBF),
+        _ if b < 0xF5 => Lead::Four(0x80, 0x8F),
         _ => Lead::Ill,
     }
 }
@@ -41,7 +44,9 @@ fn are_later(low: u32, high: u32, c: u32, d: u32, e: u32) -> bool
     (low..=high).contains(&c) && later.contains(&d) && later.contains(&e)
 }
 
-// What the bytes b, c, d, e begin. In place of a byte that is not asked for stands 80, which is in range.
+// What the bytes b, c, d, e begin. In place of a byte that is not asked for stands 80, which is in range. Not `then_some`: of a choice of values the
+// next step would wait for the tests.
+#[tactic(auto, unfolding(crate::specs::Unicode::by_lead))]
 fn byte_step(lead: Lead, b: u32, c: u32, d: u32, e: u32) -> Option<(u32, usize)>
     ensures { result ≡ by_lead lead b c d e }
 {
@@ -49,16 +54,23 @@ fn byte_step(lead: Lead, b: u32, c: u32, d: u32, e: u32) -> Option<(u32, usize)>
         Lead::Ill => None,
         Lead::One => Some((b, 1)),
         Lead::Two(low, high) => {
-            are_later(low, high, c, 0x80, 0x80).then_some((b % 32 * 64 + c % 64, 2))
+            if !are_later(low, high, c, 0x80, 0x80) {
+                return None;
+            }
+            Some((b % 32 * 64 + c % 64, 2))
         }
-        Lead::Three(low, high) => are_later(low, high, c, d, 0x80).then_some((
-            b % 16 * 4096 + c % 64 * 64 + d % 64,
-            3,
-        )),
-        Lead::Four(low, high) => are_later(low, high, c, d, e).then_some((
-            b % 8 * 262144 + c % 64 * 4096 + d % 64 * 64 + e % 64,
-            4,
-        )),
+        Lead::Three(low, high) => {
+            if !are_later(low, high, c, d, 0x80) {
+                return None;
+            }
+            Some((b % 16 * 4096 + c % 64 * 64 + d % 64, 3))
+        }
+        Lead::Four(low, high) => {
+            if !are_later(low, high, c, d, e) {
+                return None;
+            }
+            Some((b % 8 * 262144 + c % 64 * 4096 + d % 64 * 64 + e % 64, 4))
+        }
     }
 }
 

@@ -16,7 +16,8 @@ pub struct Out<'a> {
 impl<'a> Out<'a> {
     fn put_byte(&mut self, b: u8)
         requires { self.old.at < length self.old.bytes.now }
-        ensures { Wrote self.old.at (b ∷ []) self.old.bytes.now self.new.bytes.now self.new.at }
+        ensures same_reference { self.new.bytes.ghost_name ≡ self.old.bytes.ghost_name } // by it a lender learns what was written
+        ensures wrote { Wrote self.old.at (b ∷ []) self.old.bytes.now self.new.bytes.now self.new.at }
     {
         self.bytes[self.at] = b;
         self.at += 1;
@@ -25,6 +26,7 @@ impl<'a> Out<'a> {
     // A separator and a number.
     fn put_field(&mut self, base: u64, v: u64)
         requires { (10 ≤ base) × (base ≤ 16) × (self.old.at + FIELD_MOST ≤ length self.old.bytes.now) }
+        ensures same_reference { self.new.bytes.ghost_name ≡ self.old.bytes.ghost_name }
         ensures wrote { Wrote self.old.at (field base v) self.old.bytes.now self.new.bytes.now self.new.at }
         ensures upper_bound { self.new.at ≤ self.old.at + FIELD_MOST }
     {
@@ -37,6 +39,7 @@ impl<'a> Out<'a> {
     // Two digits a byte.
     fn put_pairs(&mut self, text: &[u8])
         requires { self.old.at + length text.now + length text.now ≤ length self.old.bytes.now }
+        ensures same_reference { self.new.bytes.ghost_name ≡ self.old.bytes.ghost_name }
         ensures wrote { Wrote self.old.at (pairs text.now) self.old.bytes.now self.new.bytes.now self.new.at }
         ensures value { self.new.at ≡ self.old.at + length text.now + length text.now }
     {
@@ -49,6 +52,7 @@ impl<'a> Out<'a> {
     // `E`, key and location.
     fn put_head(&mut self, key: u64, location: u32)
         requires { self.old.at + HEAD_MOST ≤ length self.old.bytes.now }
+        ensures same_reference { self.new.bytes.ghost_name ≡ self.old.bytes.ghost_name }
         ensures wrote { Wrote self.old.at (event_head key location) self.old.bytes.now self.new.bytes.now self.new.at }
         ensures upper_bound { self.new.at ≤ self.old.at + HEAD_MOST }
     {
@@ -60,6 +64,7 @@ impl<'a> Out<'a> {
     // State and marks.
     fn put_marks(&mut self, state: u32, repeat: u32, synthetic: u32)
         requires { self.old.at + MARKS_MOST ≤ length self.old.bytes.now }
+        ensures same_reference { self.new.bytes.ghost_name ≡ self.old.bytes.ghost_name }
         ensures wrote { Wrote self.old.at (event_marks state repeat synthetic) self.old.bytes.now self.new.bytes.now self.new.at }
         ensures upper_bound { self.new.at ≤ self.old.at + MARKS_MOST }
     {
@@ -71,6 +76,7 @@ impl<'a> Out<'a> {
     // The text and the line's end.
     fn put_text(&mut self, text: &[u8])
         requires { (self.old.at + TEXT_PART_MOST ≤ length self.old.bytes.now) × (length text.now ≤ TEXT_MOST) }
+        ensures same_reference { self.new.bytes.ghost_name ≡ self.old.bytes.ghost_name }
         ensures wrote { Wrote self.old.at (event_text text.now) self.old.bytes.now self.new.bytes.now self.new.at }
         ensures upper_bound { self.new.at ≤ self.old.at + TEXT_PART_MOST }
     {
@@ -90,6 +96,7 @@ impl<'a> Out<'a> {
         text: &[u8],
     )
         requires { (self.old.at + EVENT_LINE_MOST ≤ length self.old.bytes.now) × (length text.now ≤ TEXT_MOST) }
+        ensures same_reference { self.new.bytes.ghost_name ≡ self.old.bytes.ghost_name }
         ensures wrote { Wrote self.old.at (event_line key location state repeat synthetic text.now) self.old.bytes.now self.new.bytes.now self.new.at }
         ensures upper_bound { self.new.at ≤ self.old.at + EVENT_LINE_MOST }
     {
@@ -101,6 +108,7 @@ impl<'a> Out<'a> {
     // A refusal's line.
     pub fn put_refusal(&mut self, line: u64, number: u32)
         requires { self.old.at + REFUSAL_LINE_MOST ≤ length self.old.bytes.now }
+        ensures same_reference { self.new.bytes.ghost_name ≡ self.old.bytes.ghost_name }
         ensures wrote { Wrote self.old.at (refusal_line line number) self.old.bytes.now self.new.bytes.now self.new.at }
         ensures upper_bound { self.new.at ≤ self.old.at + REFUSAL_LINE_MOST }
     {

@@ -4,4 +4,4 @@ use Rattle.export.proofs.mahjonglarch_event_text.Goals as goal
 pub returns-in-Some : goal.returns-in-Some
 returns-in-Some c =
     rw (← c.in-Some.ensures.bytes, c.copy_from_slice.ensures.after)
-    (text_copied c.in-Some.bytes.now c.args.text.now c.in-Some.ensures.size c.if-text-ge-TEXT_MOST.true)
+    (text_copied c.in-Some.bytes.now c.args.text.now c.in-Some.ensures.size c.if-text-lt-TEXT_MOST.false)

@@ -6,6 +6,7 @@ use mathlib.Core.List.{List, [], ◌∷◌}
 use Prim.Native.Nat.{ℕ, zero, suc, ◌+◌, ◌≤◌, ◌<◌}
 use native.Mathlib.Omega.{arith}
 use lib.ListN.{drop, get_or}
+use lib.Dec.{eqb}
 use borrow.Author.Tests.{le-ltb}
 use Rattle.area.proofs.Pick.{yes_no}
 use Rattle.area.specs.Pick.{pick}
@@ -70,6 +71,10 @@ module _ (x : List ℕ) (j : ℕ) (b : Block x) (h : LOCK_LISTS ≤ j) (k : j < 
 -- ---- the maps
 
 module _ (x : List ℕ) where
+  pub flag-read : (maps_of x).has_alt_graph ≡ eqb (get_or x 0 0) 1
+  unfolding maps_of
+  flag-read = refl
+
   pub non_char_at : (k : ℕ) → k < VKEYS → get_or (maps_of x).non_char_keys k 0 ≡ cell_at x k
   unfolding maps_of
   non_char_at k h = let z : 0 + k ≡ k = omega arith in cells_at x VKEYS 0 k h ∙ ap (λ (i : ℕ). cell_at x i) z

@@ -1,11 +1,13 @@
 -- The last character completes the press that is held then; without one, or with more to come, nothing is completed.
 -- Assumes nothing.
 use Rattle.std.specs.Prelude.{None}
-use Rattle.std.proofs.Common.{◌≡◌, ℕ, ◌<◌, refl, sym, ◌∙◌, rules}
-use mathlib.Core.Bool.{Bool, ◌&&◌}
+use Rattle.std.proofs.Common.{◌≡◌, ℕ, ◌<◌, refl, sym, ◌∙◌, arith, rules}
+use Rattle.std.proofs.lemmas.Grind.{common_steps}
+use mathlib.Core.Bool.{Bool, true, not, ◌&&◌}
 use lib.ListN.{get_or}
 use Rattle.session.specs.Area.{decode}
 use Rattle.session.specs.Calls.{more_coming}
+use Rattle.session.specs.Questions.{is_held}
 use Rattle.session.proofs.Fits.{char_fits}
 use Rattle.record.specs.declared.read.Pending.TheVariants as case
 use Rattle.queue.proofs.Areas.{own_area}
@@ -25,8 +27,8 @@ put_last-requires c =
     let p = c.requires in
     let b : (i : ℕ) → get_or c.args.session.now i 0 < 256 = λ i. search rules in
     let r = p.stands.area in
-    let both = held_and_last (decode c.args.session.now).held (more_coming c.args.peeked) (asked_as _ c.header_at-head.ensures.1 c.completes.ensures c.if-completes.true) in
-    record { session = r.size; answers = p.answers; few = few case.Character _ _ _ _ p b; ok = held_passes _ r both.0 }
+    let ok : is_held (decode c.args.session.now).held ≡ true = grind (arith, common_steps) in
+    record { session = r.size; answers = p.answers; few = few case.Character _ _ _ _ p b; ok = held_passes _ r ok }
 
 pub complete_pending-requires : goal.complete_pending-requires
 complete_pending-requires c =
@@ -43,7 +45,9 @@ returns-then-completes c =
     let p = c.requires in
     let b : (i : ℕ) → get_or x i 0 < 256 = λ i. search rules in
     let r = p.stands.area in
-    let both = held_and_last (decode x).held (more_coming c.args.peeked) (asked_as _ c.header_at-head.ensures.1 c.completes.ensures c.if-completes.true) in
+    let last : (is_held (decode x).held && not (more_coming c.args.peeked)) ≡ true =
+    grind (arith, common_steps) in
+    let both = held_and_last (decode x).held (more_coming c.args.peeked) last in
     let none = forgotten _ (own_area x b r) refl in
     let stands = same_place x None _ _ none p.stands in
     let f = held_fits_lem x r both.0 b in

@@ -1,0 +1,7 @@
+-- What a contract sees of the keys that a focus change writes.
+use Rattle.std.specs.Prelude.{ℕ, List}
+
+-- the virtual keys, and the bytes of the room that is left, of which no clause says anything
+pub record FocusKeys : Type 0 where
+  pub items : List ℕ
+  pub spare : List ℕ
