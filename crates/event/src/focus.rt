@@ -65,7 +65,8 @@ impl FocusKeys {
 
     // How many keys.
     pub fn len(&self) -> usize
-        ensures { result ≡ length self.now.items }
+        ensures value { result ≡ length self.now.items }
+        ensures fits { result ≤ KEYS }
     {
         self.as_slice().len()
     }
@@ -73,6 +74,7 @@ impl FocusKeys {
     // The keys, in their order.
     pub fn as_slice(&self) -> &[u8]
         ensures value { result.now ≡ self.now.items }
+        ensures fits { length result.now ≤ KEYS }
     {
         &self.keys[..self.len]
     }

@@ -208,10 +208,19 @@ struct Station<'a, R: Runtime> {
 
 impl<'a, R: Runtime> Station<'a, R> {
     fn make_step(&mut self, step: Step<'_>) -> io::Result<()> {
+        if self.show_step(step)? {
+            self.hand_out()?;
+        }
+        Ok(())
+    }
+
+    // Whether it was a call that was answered. Not inlined: the room that its line is printed by is not held while its events are shown.
+    #[inline(never)]
+    fn show_step(&mut self, step: Step<'_>) -> io::Result<bool> {
         match step {
             Step::Comment(line) => {
                 self.rt.write_all(line)?;
-                println!(self.rt)
+                println!(self.rt)?;
             }
             Step::Layout(layout) => {
                 self.host.block = match layout {
@@ -219,24 +228,24 @@ impl<'a, R: Runtime> Station<'a, R> {
                     1 => self.us_with_alt_graph,
                     _ => self.accent,
                 };
-                Ok(())
             }
-            Step::Keys(line) => {
-                lines::set_keys(line, &mut self.host.state);
-                Ok(())
-            }
-            Step::Message(message) => self.open(message),
-            Step::Finish(token, peeked) => self.finish(token, peeked),
-            Step::Card => self.show_card(),
+            Step::Keys(line) => lines::set_keys(line, &mut self.host.state),
+            Step::Message(message) => return self.open(message),
+            Step::Finish(token, peeked) => return self.finish(token, peeked),
+            Step::Card => self.show_card()?,
         }
+        Ok(false)
     }
 
-    fn open(&mut self, message: Message) -> io::Result<()> {
+    fn open(&mut self, message: Message) -> io::Result<bool> {
         print!(self.rt; "message ")?;
         show_message(self.rt, message)?;
         let opened = self.host.open(message, ProcResult::DefWindowProc);
         match opened.answer {
-            Err(no) => return self.show_refused(no),
+            Err(no) => {
+                self.show_refused(no)?;
+                return Ok(false);
+            }
             Ok(None) => print!(self.rt; ": opens none")?,
             Ok(Some(token)) => print!(self.rt; ": token {:x}", token.0)?,
         }
@@ -245,20 +254,23 @@ impl<'a, R: Runtime> Station<'a, R> {
             ProcResult::Value(0) => println!(self.rt; ", result 0")?,
             ProcResult::Value(_) => println!(self.rt; ", another result")?,
         }
-        self.hand_out()
+        Ok(true)
     }
 
-    fn finish(&mut self, token: PendingMessageToken, peeked: Option<Message>) -> io::Result<()> {
+    fn finish(&mut self, token: PendingMessageToken, peeked: Option<Message>) -> io::Result<bool> {
         print!(self.rt; "finish {:x}, peeked ", token.0)?;
         match peeked {
             None => print!(self.rt; "nothing")?,
             Some(message) => show_message(self.rt, message)?,
         }
         match self.host.finish(token, peeked) {
-            Err(no) => self.show_refused(no),
+            Err(no) => {
+                self.show_refused(no)?;
+                Ok(false)
+            }
             Ok(()) => {
                 println!(self.rt)?;
-                self.hand_out()
+                Ok(true)
             }
         }
     }

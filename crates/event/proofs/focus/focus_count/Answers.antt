@@ -5,4 +5,4 @@ use Rattle.event.proofs.focus.focus_count.Goals as goal
 
 pub returns : goal.returns
 returns c =
-    c.len.ensures ∙ count c.args.keyboard.layout.bytes.now c.args.keyboard.state.now c.args.st c.focus_keys.result.items c.focus_keys.ensures
+    c.len.ensures.value ∙ count c.args.keyboard.layout.bytes.now c.args.keyboard.state.now c.args.st c.focus_keys.result.items c.focus_keys.ensures
