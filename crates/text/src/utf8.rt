@@ -96,8 +96,12 @@ pub fn well_formed(t: &[u8]) -> bool
         return true;
     }
     let mut i = 0;
-    while let Some((_, n)) = utf8_step(t, i) {
+    // No `for`: a step is of one byte to four. The end is tested here, which is a step less for each text than to ask for one behind it.
+    while i < t.len() {
+        let Some((_, n)) = utf8_step(t, i) else {
+            return false;
+        };
         i += n;
     }
-    i == t.len()
+    true
 }

@@ -4,8 +4,8 @@ use Rattle.std.proofs.Common.{◌≡◌, ◌≤◌, ◌-◌, length, drop}
 use Rattle.text.specs.Unicode.{well_formed}
 use Rattle.text.proofs.utf8.well_formed.Given as goal
 
-abbrev pub invariant-loop-n : goal.invariant-loop-n
-invariant-loop-n l = record { inside : l.i ≤ length l.t; rest : well_formed l.t ≡ well_formed (drop l.i l.t) }
+abbrev pub invariant-loop-i : goal.invariant-loop-i
+invariant-loop-i l = record { inside : l.i ≤ length l.t; rest : well_formed l.t ≡ well_formed (drop l.i l.t) }
 
-abbrev pub decreases-loop-n : goal.decreases-loop-n
-decreases-loop-n l = length l.t - l.i
+abbrev pub decreases-loop-i : goal.decreases-loop-i
+decreases-loop-i l = length l.t - l.i
