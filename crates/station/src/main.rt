@@ -192,7 +192,7 @@ fn show_message(rt: &impl Print, message: Message) -> io::Result<()> {
 
 // ---- the station
 
-// How many bytes a card has room for; one that has none is left out. Behind the files nothing is allocated, so no shift stops halfway for memory.
+// How many bytes a card has room for; one that has none is left out. Behind the files nothing is allocated.
 const CARD_MOST: usize = 255;
 
 #[derive(Drop)]
@@ -242,10 +242,7 @@ impl<'a, R: Runtime> Station<'a, R> {
         show_message(self.rt, message)?;
         let opened = self.host.open(message, ProcResult::DefWindowProc);
         match opened.answer {
-            Err(no) => {
-                self.show_refused(no)?;
-                return Ok(false);
-            }
+            Err(no) => return self.show_refused(no),
             Ok(None) => print!(self.rt; ": opens none")?,
             Ok(Some(token)) => print!(self.rt; ": token {:x}", token.0)?,
         }
@@ -264,10 +261,7 @@ impl<'a, R: Runtime> Station<'a, R> {
             Some(message) => show_message(self.rt, message)?,
         }
         match self.host.finish(token, peeked) {
-            Err(no) => {
-                self.show_refused(no)?;
-                Ok(false)
-            }
+            Err(no) => self.show_refused(no),
             Ok(()) => {
                 println!(self.rt)?;
                 Ok(true)
@@ -275,8 +269,9 @@ impl<'a, R: Runtime> Station<'a, R> {
         }
     }
 
-    fn show_refused(&self, no: Refusal) -> io::Result<()> {
-        println!(self.rt; ": refused {}", refusal_number(no))
+    fn show_refused(&self, no: Refusal) -> io::Result<bool> {
+        println!(self.rt; ": refused {}", refusal_number(no))?;
+        Ok(false)
     }
 
     // What a call handed out: shown, and taken to the card.
